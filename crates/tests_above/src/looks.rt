@@ -2,6 +2,7 @@
 use crate::kernels::kernel_of;
 use plan9::{
     Kernel, Look, Note, NoteSet, OpenedKernel, Pid, Proc, ProcStatus, RendezId, RendezStatus,
+    Started,
 };
 use std::alloc::Global;
 use std::process::Abort;
@@ -11,31 +12,25 @@ const OUTPUT: RendezId = RendezId(1);
 /// More than the kernel has.
 const ROOM: usize = 4;
 
-fn shows_all(rt: &impl Abort, kernel: &Kernel) {
+#[test]
+fn a_look_with_too_little_room_says_how_many_there_are(rt: HostRuntime) {
+    let OpenedKernel { kernel, start: _ } = kernel_of(&rt, rt.alloc(), 3, 2);
     let mut procs = [ProcStatus::default(); ROOM];
     let mut all = [RendezStatus::default(); ROOM];
     let look = kernel.look(&mut procs, &mut all);
     assert_eq!(rt; (look.procs.len(), look.rendez.len()), (3, 2));
-}
-
-fn shows_one(rt: &impl Abort, kernel: &Kernel) {
     let mut procs = [ProcStatus::default()];
     let look = kernel.look(&mut procs, &mut []);
     assert_eq!(rt; (look.proc_count, look.rendez_count), (3, 2));
     assert_eq!(rt; (look.procs.len(), look.rendez.len()), (1, 0));
 }
 
-#[test]
-fn a_look_with_too_little_room_says_how_many_there_are(rt: HostRuntime) {
-    let OpenedKernel { kernel, start: _ } = kernel_of(&rt, rt.alloc(), 3, 2);
-    shows_all(&rt, &kernel);
-    shows_one(&rt, &kernel);
-}
-
 // Whether the look is printed so.
 fn prints(rt: &impl Abort, alloc: Global, look: Look<'_>, table: &str) -> bool {
-    let text = format!(in alloc; "{look}").expect(rt, "no memory for a table");
-    text.as_str() == table
+    match format!(in alloc; "{look}") {
+        Ok(text) => text.as_str() == table,
+        Err(_) => panic!(rt; "no memory for a table"),
+    }
 }
 
 const TABLE: &str = " pid state  rendez mark notes\n   0 Wakeme      1    - interrupt, alarm\n\
@@ -92,12 +87,6 @@ fn post_notes(rt: &impl Abort, proc: &mut Proc<'_>, rows: &[(u64, NoteSet)]) {
     }
 }
 
-fn raise_levels(rt: &impl Abort, proc: &mut Proc<'_>, rows: &[(u64, u64)]) {
-    for (rendez, level) in rows {
-        assert!(rt; proc.wakeup(RendezId(*rendez), *level).is_ok());
-    }
-}
-
 // What a look shows that has room for four processes and three Rendez.
 fn shows_the_first(rt: &impl Abort, alloc: Global, kernel: &Kernel) -> bool {
     let mut procs = [ProcStatus::default(); ROOM];
@@ -108,10 +97,15 @@ fn shows_the_first(rt: &impl Abort, alloc: Global, kernel: &Kernel) -> bool {
 #[test]
 fn a_look_shows_the_first_of_many(rt: HostRuntime) {
     let OpenedKernel { kernel, start } = kernel_of(&rt, rt.alloc(), 16, 13);
+    let Started {
+        roster: _,
+        mut proc,
+    } = kernel.start(start);
     let two = NoteSet::of(Note::Expired).join(NoteSet::of(Note::Hangup));
     let (one, other) = (NoteSet::of(Note::Interrupt), NoteSet::of(Note::Alarm));
-    let mut proc = kernel.start(start).proc;
     post_notes(&rt, &mut proc, &[(1, one), (3, two), (9, other)]);
-    raise_levels(&rt, &mut proc, &[(0, 5), (2, u64::MAX), (7, 9)]);
+    for (rendez, level) in [(0, 5), (2, u64::MAX), (7, 9)] {
+        assert!(rt; proc.wakeup(RendezId(rendez), level).is_ok());
+    }
     assert!(rt; shows_the_first(&rt, rt.alloc(), &kernel));
 }

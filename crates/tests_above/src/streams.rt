@@ -3,22 +3,14 @@
 use crate::kernels::{forked, kernel_of};
 use crate::pipes::pipe_of;
 use plan9::{
-    Ends, Fault, Note, NoteSet, OpenedKernel, OpenedPipe, Parts, Proc, ReadAnswer, ReadEnd,
-    ReadStream, Reader, Roster, Shared, Sharer, Started, WriteStream, Writer,
+    Ends, Fault, Note, NoteSet, OpenedKernel, OpenedPipe, Parts, ReadAnswer, ReadEnd, ReadStream,
+    Reader, Roster, Shared, Sharer, Started, WriteStream, Writer,
 };
 use std::alloc::Global;
-use std::io::{self, ErrorKind, Read, Write};
+use std::io::{ErrorKind, Read, Write};
 use std::process::Abort;
 use std::sync::Wait;
 use std::thread::{Threads, join};
-
-// The kind of the error, if it is one.
-fn kind_of<T: Drop>(answer: io::Result<T>) -> Option<ErrorKind> {
-    match answer {
-        Err(error) => Some(error.kind()),
-        Ok(_) => None,
-    }
-}
 
 // A note ends a read, and is kept in `fault`. No room is no read, which would wait.
 fn end_a_read_by_a_note<R: Wait + Abort>(
@@ -29,9 +21,12 @@ fn end_a_read_by_a_note<R: Wait + Abort>(
     let alarm = NoteSet::of(Note::Alarm);
     let reader = from.reader.proc.pid();
     assert_eq!(rt; to.writer.proc.postnote(reader, alarm), Ok(()));
-    assert_eq!(rt; kind_of(from.read(&mut [0; 4])), Some(ErrorKind::Other));
+    let Err(error) = from.read(&mut [0; 4]) else {
+        panic!(rt; "a note ends the wait")
+    };
+    assert_eq!(rt; error.kind(), ErrorKind::Other);
     assert_eq!(rt; from.fault, Some(Fault::Interrupted(alarm)));
-    assert!(rt; from.read(&mut []).ok() == Some(0));
+    assert!(rt; matches!(from.read(&mut []), Ok(0)));
 }
 
 // Seven bytes in two writes, and an empty one between them, which is no end.
@@ -52,7 +47,10 @@ fn read_to_the_end<R: Wait + Abort>(rt: &R, alloc: Global, from: &mut ReadStream
 
 // After a hangup nothing is taken any more, as by a pipe whose reader is gone.
 fn write_after_the_hangup<R: Wait + Abort>(rt: &R, to: &mut WriteStream<'_, '_, '_, R>) {
-    assert_eq!(rt; kind_of(to.write_all(b"abc")), Some(ErrorKind::BrokenPipe));
+    let Err(error) = to.write_all(b"abc") else {
+        panic!(rt; "nothing is taken any more")
+    };
+    assert_eq!(rt; error.kind(), ErrorKind::BrokenPipe);
     assert_eq!(rt; to.fault, Some(Fault::Hungup));
 }
 
@@ -74,22 +72,35 @@ fn pair_of<'p, 'k>(rt: &impl Abort, started: &mut Started<'k>, ends: Ends<'p>) -
         read: _,
         mut writes,
     } = second.parts();
-    let end = writes.pop().expect(rt, "an end has a writer");
-    Pair {
-        reader,
-        writer: Writer::new(end, forked(rt, started)),
+    let proc = forked(rt, started);
+    match writes.pop() {
+        Some(end) => Pair {
+            reader,
+            writer: Writer::new(end, proc),
+        },
+        None => panic!(rt; "an end has a writer"),
     }
 }
 
 // `tests/pages/manual_calls` compares it with the page.
-fn pipe_lines<R: Wait + Abort>(rt: &R, alloc: Global, pair: Pair<'_, '_>, mut reader: Proc<'_>) {
+#[test]
+fn pipe_page(rt: HostRuntime) {
+    let alloc = rt.alloc();
+    let OpenedKernel { kernel, start } = kernel_of(&rt, alloc, 2, 4);
+    let mut started = kernel.start(start);
+    let OpenedPipe { pipe, start } = pipe_of(&rt, alloc, &mut started.roster, 2, 1);
     let Pair {
         reader: mut read,
-        writer: Writer {
-            end: mut write,
-            proc: mut writer,
-        },
-    } = pair;
+        writer,
+    } = pair_of(&rt, &mut started, pipe.ends(start));
+    let Started {
+        roster: _,
+        proc: mut reader,
+    } = started;
+    let Writer {
+        end: mut write,
+        proc: mut writer,
+    } = writer;
     let mut buffer = [0; 8];
     assert_eq!(rt; write.write(alloc, &rt, &mut writer, b"abc"), Ok(1));
     write.hangup(&mut writer);
@@ -104,39 +115,19 @@ fn pipe_lines<R: Wait + Abort>(rt: &R, alloc: Global, pair: Pair<'_, '_>, mut re
 }
 
 #[test]
-fn pipe_page(rt: HostRuntime) {
-    let alloc = rt.alloc();
-    let OpenedKernel { kernel, start } = kernel_of(&rt, alloc, 2, 4);
-    let mut started = kernel.start(start);
-    let OpenedPipe { pipe, start } = pipe_of(&rt, alloc, &mut started.roster, 2, 1);
-    let pair = pair_of(&rt, &mut started, pipe.ends(start));
-    pipe_lines(&rt, alloc, pair, started.proc);
-}
-
-// What std's calls make of them.
-fn play_streams<'p, 'k, R: Wait + Abort>(
-    rt: &R,
-    alloc: Global,
-    pair: Pair<'p, 'k>,
-    proc: Proc<'k>,
-) {
-    let Pair { reader, writer } = pair;
-    let mut from = ReadStream::new(rt, Reader::new(reader, proc));
-    let mut to = WriteStream::new(alloc, rt, writer);
-    end_a_read_by_a_note(rt, &mut from, &mut to);
-    write_all_of_it(rt, alloc, &mut to);
-    read_to_the_end(rt, alloc, &mut from);
-    write_after_the_hangup(rt, &mut to);
-}
-
-#[test]
 fn std_reads_and_writes_a_pipe(rt: HostRuntime) {
     let alloc = rt.alloc();
     let OpenedKernel { kernel, start } = kernel_of(&rt, alloc, 2, 4);
     let mut started = kernel.start(start);
     let OpenedPipe { pipe, start } = pipe_of(&rt, alloc, &mut started.roster, 4, 1);
-    let pair = pair_of(&rt, &mut started, pipe.ends(start));
-    play_streams(&rt, alloc, pair, started.proc);
+    let Pair { reader, writer } = pair_of(&rt, &mut started, pipe.ends(start));
+    let Started { roster: _, proc } = started;
+    let mut from = ReadStream::new(&rt, Reader::new(reader, proc));
+    let mut to = WriteStream::new(alloc, &rt, writer);
+    end_a_read_by_a_note(&rt, &mut from, &mut to);
+    write_all_of_it(&rt, alloc, &mut to);
+    read_to_the_end(&rt, alloc, &mut from);
+    write_after_the_hangup(&rt, &mut to);
 }
 
 // Reads to the end, and counts what comes: each read is one whole write of two bytes.
@@ -209,9 +200,10 @@ fn shared_of<'p>(
     roster: &mut Roster<'_>,
     end: ReadEnd<'p>,
 ) -> Shared<'p> {
-    Shared::new(alloc, roster, end, 2)
-        .ok()
-        .expect(rt, "no turns")
+    match Shared::new(alloc, roster, end, 2) {
+        Ok(shared) => shared,
+        Err(_) => panic!(rt; "no turns"),
+    }
 }
 
 // No write is torn and none is lost, and then the read end is one's own again.
