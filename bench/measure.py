@@ -5,7 +5,7 @@ usage: measure.py COMMAND PLAIN P9SYNC SCRIPT...; COMMAND is pipe or replay
 
 Each program runs ROUNDS times on each script, in turn, and the one that goes first alternates. The script is on standard
 input, the answers go to /dev/null, and the environment is the one that the launcher gives. Figures are medians, with the
-least and the greatest behind them. Processor time is that of the user and of the system together. A share is p9sync's
+least and the greatest after them. Processor time is that of the user and of the system together. A share is p9sync's
 speed as a part of the plain program's in one round. Peak memory is the greatest of all rounds. Of several scripts, it also
 prints how the processor time of a line in the last compares with that in the first."""
 import filecmp

@@ -10,7 +10,7 @@
 #include <sys/mman.h>
 #include <unistd.h>
 
-/* Of a script MAX_SCRIPT bytes are answered, and one more is read. SLACK bytes behind it can be read by any line. Between
+/* Of a script MAX_SCRIPT bytes are answered, and one more is read. SLACK bytes after it can be read by any line. Between
    two looks whether FLUSH bytes stand there at most MOST_ANSWER more come: a write of 65,536 bytes in digits, and words. */
 enum { MAX_SCRIPT = 16777216, MAX_LINE = 200000, SLACK = 64, FLUSH = 65536, MOST_ANSWER = 131200, LARGE_PAGE = 2097152 };
 
@@ -47,7 +47,7 @@ static _Noreturn void fault(const byte *end, uint64_t line) {
 #define BEGINS(at, word) (memcmp(at, word, sizeof word - 1) == 0)
 #define SAY(o, text) (memcpy(o, text, sizeof text - 1), (o) + sizeof text - 1)
 
-/* Reads a number in decimal, without a zero in front, and gives the place behind it, or NULL. What follows is not looked
+/* Reads a number in decimal, without a zero in front, and gives the place after it, or NULL. What follows is not looked
    at. A loop over the digits was faster than eight digits at once, since most numbers are short. */
 static inline const byte *number(const byte *at, uint64_t *value) {
     unsigned digit = *at - '0';
@@ -64,7 +64,7 @@ static inline const byte *number(const byte *at, uint64_t *value) {
     return at;
 }
 
-/* Answers the lines from `at` to `stop`, behind which stands a zero, and faults at the first that is not in the grammar.
+/* Answers the lines from `at` to `stop`, after which stands a zero, and faults at the first that is not in the grammar.
    The script ends in the middle of a line, or is too long, where `is_cut`. */
 static void run(const byte *at, const byte *stop, int is_cut);
 

@@ -34,7 +34,7 @@ def look(mistake):
 
 
 def home_of(mistake, top):
-    """The file that has its test, with its crate, and what stands behind the test's name."""
+    """The file that has its test, with its crate, and what stands after the test's name."""
     above = sorted(os.path.basename(it) for it in glob.glob(f"{top}/crates/tests_*"))
     for crate in (mistake.crate, *above):
         for name in sorted(glob.glob(f"{top}/crates/{crate}/src/**/*.rt", recursive=True)):
@@ -69,7 +69,7 @@ def tried(folder, test):
 
 
 def fails(folder, test, times):
-    """How often the test fails, and what was said where it doesn't. Where one does not end, which is to fail too, those behind
+    """How often the test fails, and what was said where it doesn't. Where one does not end, which is to fail too, those after
     it don't run: it is begun again for them."""
     failed = 0
     while failed < times:

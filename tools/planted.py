@@ -118,7 +118,7 @@ def function_at(crate, path, text, old):
     place = text.find(old)
     above, line = text[:place].splitlines(), text[text.rfind("\n", 0, place) + 1 :].split("\n", 1)[0]
     at = next((i for i in range(len(above) - 1, -1, -1) if FUNCTION.match(above[i])), None)
-    # Behind its end, a brace that stands as deep as its head, it is over. Its head is no part of its body.
+    # After its end, a brace that stands as deep as its head, it is over. Its head is no part of its body.
     if at is None or any(depth_of(it) <= depth_of(above[at]) and it.strip() for it in [*above[at + 1 :], line] if not heads(it)):
         return None
     name = FUNCTION.match(above[at])[1]

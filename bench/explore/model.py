@@ -73,7 +73,7 @@ def main():
     print(f"byte posted[{rendez}]; byte level[{rendez}]; byte flags[{len(calls)}];\n")
     for pid, its in enumerate(calls):
         print(f"active proctype process{pid}() {{\n    byte held;")
-        # Each call begins at its label, and behind the last one is a valid end.
+        # Each call begins at its label, and after the last one is a valid end.
         labels = [f"call{at}" for at in range(len(its))] + ["end"]
         for at, call in enumerate(its):
             print(f"{labels[at]}:\n{text_of(pid, at, labels[at + 1], call)}", end="")

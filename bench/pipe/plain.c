@@ -66,7 +66,7 @@ static unsigned check(const byte *from, size_t len) {
     return seen;
 }
 
-/* Twice the ring, with the writes that wait at its beginning. Gives the place behind them. */
+/* Twice the ring, with the writes that wait at its beginning. Gives the place after them. */
 static uint32_t grow(uint32_t head, uint32_t count, uint32_t places) {
     uint32_t end = 0;
     byte *more = must(malloc(2 * (size_t)ring_size));

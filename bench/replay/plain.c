@@ -41,7 +41,7 @@ static inline byte *say_notes(byte *o, unsigned flags) {
     return o + notes_text[flags].len;
 }
 
-/* Reads kinds of notes, and gives the place behind them, or NULL. */
+/* Reads kinds of notes, and gives the place after them, or NULL. */
 static const byte *notes(const byte *at, unsigned *flags) {
     *flags = 0;
     if (*at == '-') return at + 1;
@@ -60,7 +60,7 @@ static const byte *notes(const byte *at, unsigned *flags) {
     }
 }
 
-/* Reads a line of notes to a group of processes, each number above the one before it, and gives the place behind it, or
+/* Reads a line of notes to a group of processes, each number above the one before it, and gives the place after it, or
    NULL. */
 static const byte *group(const byte *at, unsigned *flags) {
     uint64_t pid, before = 0;
@@ -96,16 +96,16 @@ static int is_lost(unsigned proc_count) {
 }
 
 /* Reads a number, and then this byte. */
-#define NUMBER(value, behind) do { \
+#define NUMBER(value, after) do { \
         at = number(at, &(value)); \
-        if (at == NULL || *at++ != (behind)) fault(o, line); \
+        if (at == NULL || *at++ != (after)) fault(o, line); \
     } while (0)
 
-/* Reads a word that begins as it should, and the process behind it. */
-#define VERB(word, behind) do { \
+/* Reads a word that begins as it should, and the process after it. */
+#define VERB(word, after) do { \
         if (!BEGINS(at, word " ")) fault(o, line); \
         at += sizeof word; \
-        NUMBER(pid, behind); \
+        NUMBER(pid, after); \
     } while (0)
 
 /* Of a process that is there, what comes next. */

@@ -5,7 +5,7 @@ usage: race.py ROUNDS STREAM PIPE CHANNEL
 
 The pipe of the system runs twice, once as it is made, with 65,536 bytes, and once with the most that any process may ask
 for, 1,048,576. The programs run in turn, ROUNDS times each, and the one that goes first moves on by one each round. Of
-each: million writes a second, and processor seconds, as medians with the least and the most behind them; a share is the
+each: million writes a second, and processor seconds, as medians with the least and the most after them; a share is the
 speed of the library as a part of the other's in the same round, by elapsed time and by processor time. All of a run
 counts, the start of the threads too."""
 import os
@@ -48,7 +48,7 @@ def shown(figures, form):
 
 def main():
     rounds, (stream, pipe, channel) = int(sys.argv[1]), sys.argv[2:5]
-    # Of each, the program, and what it is told behind the shape.
+    # Of each, the program, and what it is told after the shape.
     programs = {
         "stream": (stream, []),
         "pipe": (pipe, []),

@@ -8,7 +8,7 @@
 //!              a block is read where it lies, and comes back to a writer through the slots of the
 //!              ring; a writer looks for room a while before it sleeps
 //!   apart      the same, with words and blocks where a table of the library has them: the tail on a
-//!              line of its own, the words of four places on each line behind it, and the blocks
+//!              line of its own, the words of four places on each line after it, and the blocks
 //!              elsewhere
 //!   channel    std's `sync_channel(16)`, whose reader checks a block where it lies, and copies none
 //!   crossbeam  the same by crossbeam's `bounded(16)`, where the program was built with it
@@ -257,7 +257,7 @@ impl Places for Together {
 }
 
 /// As in a table of the library: the tail has the first line to itself, the words of four places
-/// stand on each line behind it, two words apart, and the blocks elsewhere.
+/// stand on each line after it, two words apart, and the blocks elsewhere.
 struct Apart {
     tail: Line<AtomicU64>,
     sequences: Vec<Line<[AtomicU64; WORDS]>>,

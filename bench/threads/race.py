@@ -6,7 +6,7 @@ usage: race.py ROUNDS P9SYNC NAME=PROGRAM..
 Each other program is called with its name, the writers, the writes of each and their size. First each
 program's line is compared with the others'. Then they run in turn, ROUNDS times each,
 and the one that goes first moves on by one each round. Elapsed time and processor time (of the user
-and of the system together) are medians, with the least and the most behind them; a share is the
+and of the system together) are medians, with the least and the most after them; a share is the
 speed of p9sync as a part of the other's in the same round, by elapsed time and by processor time.
 All of a run counts, the start of the threads too."""
 import os

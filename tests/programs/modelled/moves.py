@@ -50,7 +50,7 @@ def fill_a_pipe(maker):
 
 
 def pass_empty_writes(maker):
-    """Empty writes before, between and behind bytes, read up to the last byte, before it and past it. The level of a writer's Rendez
+    """Empty writes before, between and after bytes, read up to the last byte, before it and past it. The level of a writer's Rendez
     says how far a read went."""
     dice, (way, reader, writers) = maker.dice, at_direction(maker)
     if not way or not way.stream and dice.random() < 0.8:
@@ -167,7 +167,7 @@ def line_up(maker):
 
 
 def grant_at_a_point(maker):
-    """What a call waits for, with notes or a tick, between its steps: behind its sleep, or before it."""
+    """What a call waits for, with notes or a tick, between its steps: after its sleep, or before it."""
     dice = maker.dice
     actor, partner = maker.pair()
     if not actor:

@@ -78,7 +78,7 @@ def begun(lines):
 
 
 def closed(maker, name, caller):
-    """What is left behind the call: the notes, and what its Rendez and its object are."""
+    """What is left after the call: the notes, and what its Rendez and its object are."""
     for line in [f"{caller} look", "rendez 0", "left"]:
         maker.tell(line)
     lines = [line for line, _ in maker.lines]
@@ -90,7 +90,7 @@ def written(part=0, parts=1):
     """All of these scenes, or one of so many parts of them."""
     yield from [*in_vain()][part::parts]
     for number, (place, lines, caller, call) in itertools.islice(enumerate(settings()), part, None, parts):
-        about, kinds = f"{place}: {call}, behind {'; '.join(lines[1:])}", KINDS[number % 2]
+        about, kinds = f"{place}: {call}, after {'; '.join(lines[1:])}", KINDS[number % 2]
         maker = begun([*lines, f"0 note {caller} {kinds}"])
         maker.make_call(maker.lab.actors[caller], call.split(" "))
         yield closed(maker, f"{kinds} is pending, {about}", caller)
