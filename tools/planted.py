@@ -125,7 +125,8 @@ def function_at(crate, path, text, old):
     if depth_of(above[at]) == 0:
         return "::".join([*module_of(path), name])
     head = next((IMPL.match(it) for it in reversed(above[:at]) if it.startswith("impl")), None)
-    declared = head and declared_in(crate, head[2])
+    # the prover names methods of a type's own by the module of the type, and those of a trait by that of the `impl`
+    declared = head and (path if head[1] else declared_in(crate, head[2]))
     return "::".join([*module_of(declared), f"{head[2]}{head[1] or ''}", name]) if declared else None
 
 
