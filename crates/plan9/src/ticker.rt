@@ -8,6 +8,9 @@ use std::thread::sleep;
 use std::time::{Clock, Duration, Instant};
 use sync_base::NoteSet;
 
+// The nanoseconds of a millisecond.
+const NANOS: u128 = 1_000_000;
+
 /// What tells a ticker when to tick.
 pub trait TickSource {
     ghost use Rattle.std.specs.Prelude.{⊤, ℕ};
@@ -39,12 +42,13 @@ impl RealTime {
         }
     }
 
-    /// How many milliseconds have passed: at least the moment that a beat of it told last, and just
-    /// that where the clock can't be read. So a wait that begins now is not ended by a moment that
-    /// was told before. Takes no memory and doesn't wait.
+    /// The moment at which a wait begins: how many milliseconds have passed, rounded up. A beat
+    /// tells a moment once that many whole ones have passed, so a deadline that is counted from now
+    /// does not pass early. It is at least the moment that a beat of this told last, and just that
+    /// where the clock can't be read. Takes no memory and doesn't wait.
     pub fn now<R: Clock>(&self, rt: &R) -> u64 {
         let told = self.told.load(SeqCst);
-        passed(rt, self.began).unwrap_or(told).max(told)
+        begun(rt, self.began).unwrap_or(told).max(told)
     }
 
     /// A beat that begins where this began, and shows here each moment before it tells it. Takes no
@@ -88,10 +92,16 @@ impl<'r, R: Clock> Beat<'r, R> {
     }
 }
 
-// The milliseconds since then, where the clock can be read.
+// The milliseconds since then that are over, where the clock can be read.
 fn passed<R: Clock>(rt: &R, began: Option<Instant>) -> Option<u64> {
     let passed = began?.elapsed(rt).ok()?;
     u64::try_from(passed.as_millis()).ok()
+}
+
+// The milliseconds since then that have begun, where the clock can be read.
+fn begun<R: Clock>(rt: &R, began: Option<Instant>) -> Option<u64> {
+    let passed = began?.elapsed(rt).ok()?;
+    u64::try_from(passed.as_nanos().div_ceil(NANOS)).ok()
 }
 
 impl<'r, R: Clock> TickSource for Beat<'r, R> {
