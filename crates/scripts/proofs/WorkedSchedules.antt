@@ -1,5 +1,4 @@
--- Schedules computed from the definitions alone. docs/CORE.md and docs/SCRIPTS.md show them as a
--- program runs them.
+-- Schedules computed from the definitions alone. docs/WORKED.md says where else each is tried.
 use Rattle.std.proofs.Common.{◌≡◌, ◌++◌, List, ℕ, [], refl, codes, Option, Some, None}
 use Rattle.std.specs.Fmt.{digits}
 use Rattle.scripts.specs.Schedule.{schedule_told}

@@ -1,4 +1,4 @@
--- Scripts computed from the definitions alone. docs/SCRIPTS.md shows them as a program runs them.
+-- Scripts computed from the definitions alone. docs/WORKED.md says where else each is tried.
 use Rattle.std.proofs.Common.{◌≡◌, ◌++◌, List, ℕ, [], refl, codes, Option, Some, None}
 use Rattle.hex.specs.Hex.{encode_with, decode_pairs}
 use Rattle.scripts.specs.PipeScript.{pipe_told}

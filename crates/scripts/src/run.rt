@@ -12,8 +12,8 @@ use std::alloc::Global;
 use std::io::{Read, Write};
 use sync_base::Fault;
 
-/// Runs a pipe script: reads it whole, and then writes the answers to its lines. The page
-/// `docs/SCRIPTS.md` says what a pipe script is and what its lines are answered.
+/// Runs a pipe script: reads it whole, and then writes the answers to its lines. p9sync(1) has the
+/// lines with their answers, and `docs/SCRIPTS.md` the rest of the format.
 ///
 /// Device: the reader failed, and then nothing was written; or the writer failed, and then a prefix
 /// of the answers was. Memory: the same. Script: the line that is not in the grammar, and then the
@@ -34,7 +34,8 @@ pub fn run_pipe<R: Read, W: Write>(
 }
 
 /// Runs a schedule: reads it whole, and then writes the answers to its events and whether a wakeup
-/// was lost. The page `docs/SCRIPTS.md` says what a schedule is and what its lines are answered.
+/// was lost. p9sync(1) has the lines with their answers, and `docs/SCRIPTS.md` the rest of the
+/// format.
 ///
 /// Device: the reader failed, and then nothing was written; or the writer failed, and then a prefix
 /// of the answers was. Memory: the same. Script: the line that is not in the grammar, and then the
