@@ -72,4 +72,6 @@ pub use tag_space::{
 };
 
 // What a caller has beside: a pipe for one thread, and probes for tests of calls.
-pub use sync_base::{NoProbe, PlainPipe, Probe};
+pub use sync_base::{
+    NoProbe, PeekAnswer, PlainPipe, Probe, ReadAnswer as PlainReadAnswer, WriteAnswer,
+};
