@@ -37,7 +37,7 @@ impl Timers {
     ghost use Rattle.timer_list.specs.TimerHistory.{sets_after};
     ghost use Rattle.timer_list.specs.Timers.{WhyNoTimers};
 
-    /// Timers for so many processes, none of which is set. Refuses, in this order, as `NoProc`
+    /// Timers for this many processes, none of which is set. Refuses, in this order, as `NoProc`
     /// where the processes are not from 1 to 1,024, and `Memory`. Doesn't wait.
     pub fn new(alloc: Global, procs: u64) -> Result<OpenedTimers, Fault>
         // Refused first.
@@ -58,8 +58,8 @@ impl Timers {
         })
     }
 
-    /// Gives a seat for another process. Refuses as `NoProc` where as many seats were given as
-    /// there are processes. It waits for the timers' lock. Takes no memory.
+    /// Gives a seat for another process. Refuses as `NoProc` where every process has its seat
+    /// already. It waits for the timers' lock. Takes no memory.
     pub fn split<R: Wait>(&self, rt: &R, seat: &mut TimerSeat) -> Result<TimerSeat, Fault>
         requires { IsTimerSeatOf self.now seat.old }
         ensures seat { IsTimerSeatOf self.now seat.new }
