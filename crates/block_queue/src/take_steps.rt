@@ -16,7 +16,7 @@ use crate::spare::{Slot, Spare};
 use crate::stored_block::StoredBlock;
 
 impl Queue {
-    /// Reads whether the next block stands, before it is asked why none does.
+    /// Reads whether the next block stands, before the tail is asked why it does not.
     // Step TakeReady: load of the sequence word of its place. Where the block stands the slot is
     // the seat's.
     // Seat: Free, then Moving; or as it was.
