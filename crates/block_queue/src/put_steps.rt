@@ -1,5 +1,5 @@
-//! The steps of a put, a function each. Above each step stand the seat before and after it, and why
-//! the rule stays. All orderings are the table's.
+//! The steps of a put, a function each. The comment above each step has the seat before and after
+//! it, and why the rule stays. All orderings are the table's.
 ghost use Rattle.std.specs.Prelude.{◌≡◌, ◌+◌, ◌<◌, [], ◌∷◌, None, Some, IsTrue};
 ghost use Rattle.std.specs.Bool.{OnTrue, OnFalse};
 ghost use Rattle.histories.specs.Account.{has_number};

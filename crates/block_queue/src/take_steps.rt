@@ -1,5 +1,5 @@
-//! The steps of a take and of a hangup, a function each. Above each step stand the seat before and
-//! after it, and why the rule stays.
+//! The steps of a take and of a hangup, a function each. The comment above each step has the seat
+//! before and after it, and why the rule stays.
 ghost use Rattle.std.specs.Prelude.{◌≡◌, ◌+◌, ◌<◌, ◌^◌, [], ◌∷◌, None, Some};
 ghost use Rattle.block_queue.specs.declared.view.Stage.TheVariants.{Free, Moving};
 ghost use Rattle.block_queue.specs.Places.{place_of};

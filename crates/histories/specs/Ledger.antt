@@ -8,7 +8,7 @@ use Rattle.histories.specs.declared.account.Account.{Account}
 use Rattle.histories.specs.History.{IsPast, AreByBelow}
 use Rattle.histories.specs.Account.{AreDifferent, HasItsEntries, numbers_in, has_given}
 
--- the one history, and who has which number of those that were given
+-- the one history, and which seat has each number that was given
 pub record Ledger (Entry : Type 0) : Type 0 where
   pub history : List Entry
   -- the next number: all numbers below it were given

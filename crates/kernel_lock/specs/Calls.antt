@@ -18,7 +18,7 @@ module _ {Object Call Reply : Type 0} where
         record { number = number; shares = unused_share number ∷ []; seen = []; gave = gave }
     pub given_is : view.given ≡ given
 
-  -- a request was served: its past ends with what the seat had seen
+  -- a request was served: its past continues what the seat had seen
   pub record Serves (served : Operation Call Reply)
       (old new : View Object Call Reply) : Type 0 where
     pub account : AddsEntry server served old.account new.account

@@ -150,7 +150,7 @@ module _ {Object State Call Reply : Type 0}
     pub key_is : after.0.key ≡ Some key
     pub stage_is : after.0.stage ≡ Outside
     pub no_slot : after.1 ≡ []
-    -- its request's past ends with what it had seen
+    -- its request's past continues what it had seen
     pub serves : Serves served before.0 after.0
     -- which is that history
     pub follows : after.0.account.seen ≡ served ∷ history

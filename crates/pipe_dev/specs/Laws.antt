@@ -1,4 +1,4 @@
--- The headline: each write is read whole and once, and none is accepted after a hangup.
+-- The headline: each write is read whole and once, and no write is accepted after a hangup.
 use Rattle.std.specs.Prelude.{◌≡◌, ◌+◌, ℕ, ⊤, List, [], ◌∷◌, ◌++◌, reverse}
 use Rattle.std.specs.List.{AllByRecursion}
 use Rattle.histories.specs.declared.account.Share.{Share}

@@ -56,9 +56,9 @@ pub fn calls_write_what_they_answer()
 /// The headline. Whatever calls were made of the ends of a direction, from any threads: what was
 /// read from it, followed by what it still holds, is for each writer the bytes of its accepted
 /// writes, in its order, each write whole, contiguous and once. No write is accepted after a
-/// hangup. Once the wakeup that made its condition true has returned, no process that fell asleep
-/// before is still posted, and the level of that wakeup is above the number with which the process
-/// had to wait.
+/// hangup. Once the wakeup that followed has returned, no process that fell asleep before its
+/// condition was made true is still posted, and the level of that wakeup is above the number with
+/// which the process had to wait.
 pub fn each_write_is_read_whole_and_once()
     ensures shares { EachShareIsReadWholeAndOnce }
     ensures whole { EachWriteIsReadWholeAndOnce }

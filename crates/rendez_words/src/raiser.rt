@@ -1,5 +1,5 @@
-//! The steps of a wakeup, none of which waits. Above each step stand its operation, the seat before
-//! and after, and what the order rests on.
+//! The steps of a wakeup, none of which waits. The comment above each step has its operation, the
+//! seat before and after, and what the order rests on.
 ghost use Rattle.std.specs.Prelude.{◌≡◌, ◌<◌, ⊤, IfOk, IfErr, OnOk, MatchResult};
 ghost use Rattle.rendez_words.specs.Answers.{IfTaken};
 ghost use Rattle.rendez_words.specs.Process.{phase_in, sleeper_of};

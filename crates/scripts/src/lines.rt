@@ -32,7 +32,7 @@ fn place_of(byte: u8, text: &[u8]) -> Option<usize>
 }
 
 /// What follows a word that a text begins with; nothing where it begins with another word. For a
-/// word that it knows, the compiler writes the steps out; those of `strip_prefix` it does not.
+/// word that it knows, the compiler writes the steps out, but not the steps of `strip_prefix`.
 #[inline(always)]
 pub fn after_word<'t>(word: &[u8], text: &'t [u8]) -> Option<&'t [u8]>
     ensures { MatchOption result ((rest : List ℕ) → ¬ (text.now ≡ word.now ++ rest))

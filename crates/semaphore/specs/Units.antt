@@ -73,7 +73,7 @@ answer_acquire s seat =
     if nat_lt 0 s.value then reply.Acquired
     else (if grants_of s seat == LAST_GRANT then reply.Worn else reply.Wait (grants_of s seat))
 
--- Own: a release answers the sum, before units pass to those who wait.
+-- Own: a release answers the sum, before units pass to the waiters.
 abbrev pub answer_release : SemaState → ℕ → SemaReply
 answer_release s count =
     if nat_lt MAX_VALUE (s.value + count) then reply.BadArg else reply.Value (s.value + count)

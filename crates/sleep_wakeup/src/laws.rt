@@ -139,8 +139,8 @@ pub fn wakeups_can_be_kept()
         → Wakes (after table []) (rendez 0) 1 (after table marks_the_sleeper) done }
 {}
 
-/// No pid and no Rendez is given twice, and none is lost. The process in the group that the flags
-/// ask for is the child, or the caller where there is no child.
+/// No pid and no Rendez is given twice, and none is lost. The child, or the caller where there is
+/// no child, is in the group that the flags say.
 pub fn forks_can_be_broken()
     ensures gives_a_pid_twice { (unused : Unused) (flags : Flags) (parent : ℕ)
         → ¬ (Forks parent unused flags (Some (next_process unused)) unused) }

@@ -26,7 +26,7 @@ use Rattle.waiting.specs.Waiting.{Promise, Point, Waited}
 
 -- ---- one request
 
--- a request is in the history with its reply, and its past ends with what the member had seen
+-- a request is in the history with its reply, and its past continues what the member had seen
 abbrev pub Asks : GroupCall → GroupReply → Account Entry → Account Entry → Type 0
 Asks call told before after =
     AddsEntry server (record { by = member_of call; request = call; reply = told }) before after

@@ -35,7 +35,7 @@ pub record WantsRow (unused : Unused) (flags : Flags) : Type 0 where
   pub pid : MayHavePid unused flags
   pub space : IsTrue (asks_space flags)
 
--- a pid was asked for, and none is left
+-- a pid was asked for, and no pid is left
 pub record WantsPid (unused : Unused) (flags : Flags) : Type 0 where
   pub known : AreKnown flags
   pub child : IsTrue (asks_child flags)

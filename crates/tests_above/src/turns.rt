@@ -36,7 +36,7 @@ fn come_of<R: Wait>(rt: &R, me: &mut Caller<'_, '_>, count: u32) -> Came {
     (got, me.units.release(rt, 0), me.turn.release(rt, 0))
 }
 
-/// Two units of three, and then two of the one that is left, with a note that is pending.
+/// Takes two units of three, and then two where one is left, with a note that is pending.
 fn take_twice<R: Wait>(rt: &R, me: &mut Caller<'_, '_>) -> Result<[Came; 2], Fault> {
     let first = come_of(rt, me, 2);
     let pid = me.units.pid();

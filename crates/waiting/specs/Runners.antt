@@ -44,8 +44,8 @@ module _ {Seat Out : Type 0} (promise : Promise Seat Out) (rendez : RendezId)
   over_at answer after (inl begun) = after.process
   over_at answer after (inr waits) = waits.waited.process
 
-  -- A call without a deadline does to its seat what this call did, with the same result: so the
-  -- laws of a device's calls hold of it.
+  -- A call without a deadline does to its seat what this call did, and comes to the same result or
+  -- likewise to none: so the laws of a device's calls hold of it.
   pub record IsACall (answer : Result Out Fault) (after : Point Seat) : Type 0 where
     pub told : Result Out Fault
     pub process : Process
