@@ -28,7 +28,7 @@ ThreadsKeepPromises =
     → KeepsPromises sizes s shows
 
 -- The rule in words: a process whose sleep is not over is posted, or held by one raiser, or marked,
--- or has withdrawn itself, and only one of these; no other process is any of them.
+-- or has withdrawn itself, and exactly one of these; no other process is any of them.
 pub record AreInPlaces (state : State) : Type 0 where
   pub sleepers : (pid : ℕ) → IsInSleep (phase_of state pid) → IsInOnePlace state pid
   pub others : (pid : ℕ) → ¬ (IsInSleep (phase_of state pid)) → (place : Place)

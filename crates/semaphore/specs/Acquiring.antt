@@ -81,7 +81,8 @@ abbrev pub Takes :
 Takes true = Waits
 Takes false = AsksNow
 
--- a semacquire: the answer Acquired is one unit that was given, and any other answer is none
+-- a semacquire: the answer Acquired is exactly one unit that was given, and any other answer is
+-- none
 pub record Semacquires (block : Bool) (sema : Sema) (before : Point SemaSeat)
     (answer : Result Semacquired Fault) (after : Point SemaSeat) : Type 0 where
   pub units : units_given after.seat ≡ units_given before.seat + units_of answer

@@ -62,7 +62,7 @@ wake_next (reply.Value sum) = Some NextWake
 wake_next answer = None
 
 module _ (sema : Sema) where
-  -- the seat, which does not wait, asked this of some state and got this answer
+  -- the seat, which does not wait, asked this of some state and got the answer of that state
   pub record Finds (call : SemaCall) (told : SemaReply) (before after : SemaSeat) : Type 0 where
     pub asks : Asks sema false call told before after
     pub found : IsTold sema.procs (number_of before.seat) false call told

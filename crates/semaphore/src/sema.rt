@@ -102,8 +102,8 @@ impl Sema {
         })
     }
 
-    /// Gives a seat for another process. Refuses as `NoProc` where each of the semaphore's
-    /// processes has its seat. It waits for the semaphore's lock. Takes no memory.
+    /// Gives a seat for another process. Refuses as `NoProc` where as many seats were given as the
+    /// semaphore has processes. It waits for the semaphore's lock. Takes no memory.
     pub fn split<R: Wait>(&self, rt: &R, seat: &mut SemaSeat) -> Result<SemaSeat, Fault>
         requires { IsSemaSeatOf self.now seat.old }
         ensures seat { IsSemaSeatOf self.now seat.new }

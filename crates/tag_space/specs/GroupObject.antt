@@ -28,7 +28,7 @@ opening members count = replicate members (fresh_place count)
 abbrev pub place_of : List Place → ℕ → Place
 place_of places member = slice_index_or places member (fresh_place 0)
 
--- the member's state and count become these, where there is such a member
+-- the member's state becomes this one, and its count this one
 abbrev pub put : List Place → ℕ → CallState → ℕ → List Place
 put places member state count =
     slice_set places member (record { state = state; meetings = count })

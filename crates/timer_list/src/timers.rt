@@ -58,8 +58,8 @@ impl Timers {
         })
     }
 
-    /// Gives a seat for another process. Refuses as `NoProc` where every process has its seat
-    /// already. It waits for the timers' lock. Takes no memory.
+    /// Gives a seat for another process. Refuses as `NoProc` where as many seats were given as
+    /// there are processes. It waits for the timers' lock. Takes no memory.
     pub fn split<R: Wait>(&self, rt: &R, seat: &mut TimerSeat) -> Result<TimerSeat, Fault>
         requires { IsTimerSeatOf self.now seat.old }
         ensures seat { IsTimerSeatOf self.now seat.new }

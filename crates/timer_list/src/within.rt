@@ -71,8 +71,8 @@ impl<'t> Runner for Deadline<'t> {
     }
 }
 
-/// Makes a call, as `wait_for` of `waiting` does, but waits until its deadline at most. After
-/// tsemacquire in semacquire(2) and tsleep of the kernel; the tick is the library's own.
+/// Makes a call, as `wait_for` of `waiting` does, with a deadline for its wait. After tsemacquire
+/// in semacquire(2) and tsleep of the kernel; the tick is the library's own.
 ///
 /// A call that has to wait sets its timer first. Where notes end its wait, and it has come to no
 /// result by then, it is refused as `TimedOut` where a tick took its timer and no other note came,
