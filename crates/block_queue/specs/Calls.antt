@@ -1,4 +1,4 @@
--- What each answer of a queue tells of the one history.
+-- What each answer of a queue says of the one history.
 use Rattle.std.specs.Prelude.{◌≡◌, ◌≢◌, ℕ, List, true, false, ⊤, None}
 use Rattle.histories.specs.declared.account.Account.{Account}
 use Rattle.sync_base.specs.Pipe.{next_write}
@@ -19,7 +19,7 @@ pub record Stands (key : Key) (writer : ℕ) (block : List ℕ) (number : ℕ)
   pub taken : Enters key (entry.Taken writer block number) old between
   pub stood : Enters key (entry.Stood writer number) between new
 
--- a block that was not taken came back, and the refusal stands in the history
+-- a block that was not taken came back, and the refusal is in the history
 pub record Refuses (key : Key) (refusal : Entry) (block back : List ℕ)
     (old new : Account Entry) : Type 0 where
   pub back_is : back ≡ block
@@ -42,14 +42,14 @@ Takes key old new (take.Block block writer number) =
 Takes key old new (take.NotYet number) = Enters key (entry.NotYet number) old new
 Takes key old new take.End = Enters key entry.End old new
 
--- Own. A writer that knew of the hangup is not told that the queue is full.
+-- Own. A writer that knew of the hangup does not get the answer Full.
 abbrev pub IsFreshPut : Key → Account Entry → PutAnswer → Type 0
 IsFreshPut key old (put.Taken number) = ⊤
 IsFreshPut key old (put.Full back number) = saw_hangup key old ≡ false
 IsFreshPut key old (put.Hungup back) = ⊤
 IsFreshPut key old (put.Worn back) = ⊤
 
--- Own. A reader that knew of the hangup is told NotYet only while a write is left.
+-- Own. A reader that knew of the hangup gets NotYet only while a write is left.
 abbrev pub IsFreshTake : Key → Account Entry → Account Entry → TakeAnswer → Type 0
 IsFreshTake key old new (take.Block block writer number) = ⊤
 IsFreshTake key old new (take.NotYet number) =

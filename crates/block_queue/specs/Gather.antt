@@ -28,19 +28,19 @@ pub record AreAllSeats (take : TakeSeat) (puts : List PutSeat) : Type 0 where
   pub order : (take_account take).gave ≡ numbers_of puts
   pub none : AllByRecursion (λ seat. (put_account seat).gave ≡ []) puts
 
--- a history that goes on with takes of these writes, after the one with this number
+-- a history that goes on with takes of these writes, the first after the write with this number
 abbrev pub with_blocks : ℕ → List Write → List Entry → List Entry
 with_blocks number [] history = history
 with_blocks number (write ∷ writes) history =
     with_blocks (number + 1) writes (Block write.writer write.bytes (number + 1) ∷ history)
 
--- the entries of these seats in the history are all theirs
+-- the entries of the history by each of these seats are its `mine`
 abbrev pub AreTheirs : List Entry → List PutSeat → Type 0
 AreTheirs history puts =
     AllByRecursion
     (λ seat. AllByRecursion (HasItsEntries seat_of history) (put_account seat).shares) puts
 
--- what these seats have seen are pasts of the history
+-- what each of these seats has seen is a past of the history
 abbrev pub AreTheirPasts : List Entry → List PutSeat → Type 0
 AreTheirPasts history puts = AllByRecursion (λ seat. IsPast (put_account seat).seen history) puts
 
@@ -49,14 +49,14 @@ pub record SawPasts (history : List Entry) (view : View) : Type 0 where
   pub seen : IsPast view.account.seen history
   pub before : AllByRecursion (λ past. IsPast past history) view.pasts
 
--- whose pasts are told by what one seat saw, which was joined with all but the rest
+-- what one seat saw, which was joined with all seats but the rest, gives the pasts of these seats
 pub record TellsPasts (puts : List PutSeat) (old : View) (rest : List PutSeat) (now : View) :
     Type 0 where
   pub reader : (history : List Entry) → SawPasts history now → IsPast old.account.seen history
   pub writers : (history : List Entry) → SawPasts history now → AreTheirPasts history rest →
       AreTheirPasts history puts
 
--- one seat of the reader and of those that are not among these
+-- one seat of the reader and of the writers that are not in the rest
 pub record IsJoining (puts : List PutSeat) (old : Account Entry) (rest : List PutSeat)
     (now : Account Entry) : Type 0 where
   pub gave : now.gave ≡ old.gave
@@ -78,7 +78,7 @@ pub record HasJoined (puts : List PutSeat) (old new : Account Entry) : Type 0 wh
   pub puts_theirs : (history : List Entry) →
       AllByRecursion (HasItsEntries seat_of history) new.shares → AreTheirs history puts
 
--- a seat that has all the numbers, and so many blocks are left, all of which stand
+-- a seat has all the numbers, and this many blocks are left, all of which stand
 pub record IsLeft (key : Key) (account : Account Entry) (left : ℕ) : Type 0 where
   pub all : HasAllNumbers account
   pub knows : KnowsQueue key account
@@ -86,7 +86,7 @@ pub record IsLeft (key : Key) (account : Account Entry) (left : ℕ) : Type 0 wh
   pub left_is : length (queue_after key account.seen).pipe.accepted ≡
       (queue_after key account.seen).pipe.read_whole + left
 
--- so many blocks were taken out, and so many less are left
+-- of `left` blocks these were taken out, and the others are left
 pub record IsEmptying (key : Key) (left : ℕ) (old now : Account Entry) (blocks : List Write) :
     Type 0 where
   pub few : length blocks ≤ left
@@ -103,8 +103,8 @@ pub record Empties (key : Key) (left : ℕ) (old new : Account Entry) (blocks : 
       with_blocks (begun_number key.first (queue_after key old.seen).pipe) blocks old.seen
   pub none : IsLeft key new 0
 
--- what was gathered: there is one legal history of all seats, of which each has seen a past and
--- in which its entries stand once each; it goes on with takes of these blocks, and then nothing is
+-- what was gathered: there is one legal history of all seats; each seat has seen a past of it, and
+-- it has each of their entries once; it goes on with takes of these blocks, and then nothing is
 -- left
 pub record Gathers (key : Key) (take : TakeSeat) (puts : List PutSeat) (gathered : Gathered) :
     Type 0 where

@@ -18,7 +18,7 @@ use Rattle.block_queue.specs.declared.entry.Entry.TheVariants.{Block, NotYet, En
 -- which its put returned.
 pub record QueueState : Type 0 where
   pub pipe : PipeState
-  -- of each seat, the number of the write that was accepted by a put which has not returned
+  -- for each seat, the number of the write that was accepted by a put which has not returned
   pub putting : ℕ → Option ℕ
 
 -- a new queue
@@ -50,7 +50,7 @@ after_entry s (NotYet number) = s
 after_entry s End = s
 after_entry s (Hung seat) = record s { pipe = after_hangup s.pipe }
 
--- ---- what a call may be answered in a state; the first write has the number first + 1
+-- ---- when a call may get an answer in a state; the first write has the number first + 1
 
 -- Taken: the direction takes the write, and its number is the next one
 pub record IsTaken (first : ℕ) (s : QueueState) (number : ℕ) : Type 0 where
@@ -58,12 +58,12 @@ pub record IsTaken (first : ℕ) (s : QueueState) (number : ℕ) : Type 0 where
   pub number_is : number ≡ next_number first s.pipe
   pub given : number ≤ LAST_WRITE
 
--- Full: as many blocks stand as there is room for
+-- Full: the direction has as many blocks as it has room for
 pub record IsFull (first : ℕ) (s : QueueState) (number : ℕ) : Type 0 where
   pub may : MayAnswerWrite s.pipe put.Full
   pub number_is : number ≡ begun_number first s.pipe
 
--- Own. Worn: the last number is given
+-- Own. Worn: the last number was given
 pub record IsWorn (first : ℕ) (s : QueueState) : Type 0 where
   pub not_hung : s.pipe.hung ≡ false
   pub last : next_number first s.pipe ≡ LAST_WRITE + 1
@@ -84,7 +84,7 @@ pub record IsNotYet (first : ℕ) (s : QueueState) (number : ℕ) : Type 0 where
   pub none : (next_write s.pipe ≡ None) ⊎ IsUnready s (begun_number first s.pipe + 1)
   pub number_is : number ≡ begun_number first s.pipe
 
--- After pipe(2), by which a write to a hung up pipe fails and a read of what is left does not.
+-- After pipe(2): a write to a hung up pipe fails, and a read of what is left does not.
 abbrev pub MayBe : ℕ → QueueState → Entry → Type 0
 MayBe first s (Taken writer block number) = IsTaken first s number
 MayBe first s (Stood writer number) = ⊤
@@ -97,7 +97,7 @@ MayBe first s (NotYet number) = IsNotYet first s number
 MayBe first s End = MayAnswerRead 1 s.pipe read.End
 MayBe first s (Hung seat) = ⊤
 
--- ---- whose call it is, and in which order a caller's entries stand
+-- ---- the caller of an entry, and the order of a caller's entries
 
 -- the seat that made the call: the reader is seat 0, and writer w is seat w + 1
 abbrev pub seat_of : Entry → ℕ
@@ -123,8 +123,8 @@ ended_put (NotYet number) = None
 ended_put End = None
 ended_put (Hung seat) = None
 
--- what stands in a history after its past: a write stands once, after it was taken and before
--- the next call of its writer
+-- what may follow a past in a history: a write stands once, after it was taken and before the next
+-- call of its writer
 pub record IsRight (first : ℕ) (s : QueueState) (entry : Entry) : Type 0 where
   pub may : MayBe first s entry
   pub in_turn : s.putting (seat_of entry) ≡ ended_put entry

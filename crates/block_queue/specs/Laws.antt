@@ -52,7 +52,7 @@ pub record Shows (first : ℕ) (kept : Contents) (s : QueueState) : Type 0 where
   pub room : length kept.waiting ≤ kept.limit
   pub given : last_number kept ≤ LAST_WRITE
 
--- no answer that stands before this one, in the order Hungup, Worn, Full, Taken, and Block, End,
+-- no answer that comes before this one, in the order Hungup, Worn, Full, Taken, and Block, End,
 -- NotYet, may be given
 abbrev pub IsFirst : ℕ → QueueState → QueueReply → Type 0
 IsFirst first s (reply.Hungup back) = ⊤
@@ -68,8 +68,8 @@ IsFirst first s reply.End = next_write s.pipe ≡ None
 IsFirst first s (reply.NotYet number) = (next_write s.pipe ≡ None) × (s.pipe.hung ≡ false)
 IsFirst first s reply.Hung = ⊤
 
--- A call that is answered so: its entries may stand after the state, nothing before the answer may
--- be given, and what is kept then shows the state that the entries leave.
+-- A call with this answer: its entries may follow the state, no earlier answer may be given, and
+-- what is kept then shows the state that the entries leave.
 pub record IsCall (first : ℕ) (kept : Contents) (s : QueueState) (by : ℕ) (call : QueueCall)
     (answer : QueueReply) : Type 0 where
   pub legal : IsLegal (queue_meaning first) s (entries_of by call answer)
@@ -77,13 +77,14 @@ pub record IsCall (first : ℕ) (kept : Contents) (s : QueueState) (by : ℕ) (c
   pub after : Shows first (after_reply kept call answer)
       (state_after (queue_meaning first) s (entries_of by call answer))
 
--- each call on the sequential queue is answered as a direction answers it
+-- each call on the sequential queue gets the answer of a direction
 abbrev pub EachCallIsRight : Type 0
 EachCallIsRight =
     (first : ℕ) (kept : Contents) (s : QueueState) (by : ℕ) (call : QueueCall)
     → Shows first kept s → IsCall first kept s by call (reply_to kept call)
 
--- each history of the object is a legal history of the queue, and what it keeps shows what is left
+-- each history of the object is a legal history of the queue, and what the object keeps shows what
+-- is left
 abbrev pub ObjectsAreQueues : Type 0
 ObjectsAreQueues =
     (limit first : ℕ) (history : List (Operation QueueCall QueueReply)) → first ≤ LAST_WRITE

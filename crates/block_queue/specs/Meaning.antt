@@ -15,7 +15,7 @@ queue_meaning first = record { by = seat_of; IsRight = IsRight first; after = af
 abbrev pub queue_after : Key → List Entry → QueueState
 queue_after key history = state_after (queue_meaning key.first) (opening_state key.limit) history
 
--- what the seat has seen is a legal history of the queue, with its own entries once each
+-- what the seat has seen is a legal history of the queue, with each of its own entries once
 abbrev pub KnowsQueue : Key → Account Entry → Type 0
 KnowsQueue key account =
     KnowsHistory (queue_meaning key.first) (opening_state key.limit) (key.writers + 1) account

@@ -13,12 +13,12 @@ use Rattle.block_queue.specs.declared.view.Stage.TheVariants.{Free}
 use Rattle.block_queue.specs.declared.view.View.{View}
 use Rattle.block_queue.specs.Seats.{IsPutSeatOf, IsTakeSeatOf, key_of, put_account, take_account}
 
--- no queue has this limit, or so many writers
+-- no queue has this limit, or this many writers
 abbrev pub IsBadQueue : ℕ → ℕ → Type 0
 IsBadQueue limit writers =
     ((limit ≡ 0) ⊎ (MAX_PIPE_LIMIT < limit)) ⊎ ((writers ≡ 0) ⊎ (MAX_WRITERS < writers))
 
--- the sizes may be, and there is no first number above this one
+-- the sizes are allowed, and `first` is above the number of the last write
 pub record IsBadFirst (limit writers first : ℕ) : Type 0 where
   pub sizes : IsBadQueue limit writers → ⊥
   pub above : LAST_WRITE < first
@@ -28,11 +28,11 @@ abbrev pub new_account : ℕ → Account Entry
 new_account number =
     record { number = number; shares = unused_share number ∷ []; seen = []; gave = [] }
 
--- the reader's seat, which gave so many numbers to the writers
+-- the reader's seat, which gave this many numbers to the writers
 abbrev pub reader_account : ℕ → Account Entry
 reader_account writers = record (new_account 0) { gave = numbers_from 1 writers }
 
--- the reader while it hands the numbers over: it has done so for this many writers
+-- the reader while it hands the numbers over: this many writers have theirs
 abbrev pub handing_view : ℕ → ℕ → View
 handing_view writers done =
     record {

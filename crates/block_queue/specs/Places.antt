@@ -1,6 +1,7 @@
--- Where the ring keeps a direction: the tail, and a sequence word and a slot for each place.
--- Writes are counted from 0: write c is the one with the number first + c + 1. Own; like the ring
--- of Vyukov's bounded queue, but for its numbering, which tells stored and free apart at one place.
+-- Where the ring keeps a direction: the tail, and a sequence word and a slot for each place. Writes
+-- are counted from 0: write c is the one with the number first + c + 1. Own; like the ring of
+-- Vyukov's bounded queue, but for its numbering, which distinguishes stored and free where there is
+-- one place.
 use Rattle.std.specs.Prelude.{◌≡◌, ◌≢◌, ◌⊎◌, ◌+◌, ◌*◌, ◌/◌, ◌%◌, ◌<◌, ◌≤◌, ℕ, Bool, false}
 use Rattle.std.specs.Prelude.{if◌then◌else◌, Option, Some, None}
 use Rattle.std.specs.Prelude.{List, length, slice_get, slice_index}
@@ -33,7 +34,7 @@ sequence_of place = LINE + 2 * place
 abbrev pub ring_words : ℕ → ℕ
 ring_words limit = LINE + 2 * limit
 
--- what that word is while the place is free for the write, and while the write stands there
+-- the word of a place while it is free for the write, and while the write stands there
 abbrev pub free_word : ℕ → ℕ → ℕ
 free_word limit count = 2 * lap_of limit count
 
@@ -48,15 +49,15 @@ Homes = List (maybe.Option (Option Write))
 abbrev pub IsUnstored : ℕ → QueueState → Write → ℕ → Type 0
 IsUnstored first s write count = s.putting (write.writer + 1) ≡ Some (first + count + 1)
 
--- what a place has for a write that no read has begun
+-- the word and slot of the place of a write that no read has begun
 pub record IsPlace (limit first : ℕ) (s : QueueState) (out : Bool) (words : List ℕ) (homes : Homes)
     (count : ℕ) : Type 0 where
-  -- no write has taken it: it is free, and its slot empty
+  -- no write has taken the place: it is free, and its slot empty
   pub free : length s.pipe.accepted ≤ count →
       slice_index words (sequence_of (place_of limit count)) ≡ free_word limit count
   pub empty : length s.pipe.accepted ≤ count →
       get_elem? homes (place_of limit count) ≡ some (some None)
-  -- a write has taken it, and does not stand yet: its word is as it was
+  -- a write has taken the place, and does not stand yet: the word is as it was
   pub begun : (write : Write) → slice_get s.pipe.accepted count ≡ Some write →
       IsUnstored first s write count →
       slice_index words (sequence_of (place_of limit count)) ≡ free_word limit count
@@ -64,7 +65,7 @@ pub record IsPlace (limit first : ℕ) (s : QueueState) (out : Bool) (words : Li
   pub stored : (write : Write) → slice_get s.pipe.accepted count ≡ Some write →
       (IsUnstored first s write count → ⊥) →
       slice_index words (sequence_of (place_of limit count)) ≡ stored_word limit count
-  -- its block is in the slot, but where the reader has taken it out
+  -- the write's block is in the slot, unless the reader has taken it out
   pub full : (write : Write) → slice_get s.pipe.accepted count ≡ Some write →
       (IsUnstored first s write count → ⊥) → (out ≡ false) ⊎ (count ≢ s.pipe.read_whole) →
       get_elem? homes (place_of limit count) ≡ some (some (Some write))
@@ -78,7 +79,7 @@ pub record AreWords (limit first : ℕ) (s : QueueState) (out : Bool) (words : L
   pub places : (count : ℕ) → s.pipe.read_whole ≤ count → count < s.pipe.read_whole + limit →
       IsPlace limit first s out words homes count
 
--- what is so in each state that a legal history leaves
+-- what holds in each state that a legal history leaves
 pub record IsQueueState (limit first : ℕ) (s : QueueState) : Type 0 where
   pub limit_is : s.pipe.limit ≡ limit
   pub whole : s.pipe.offset ≡ 0

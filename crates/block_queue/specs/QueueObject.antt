@@ -1,4 +1,4 @@
--- The sequential queue of blocks: what it keeps, what it answers, and what it leaves.
+-- The sequential queue of blocks: what it keeps, its replies, and what they leave.
 use Rattle.std.specs.Prelude.{◌==◌, ◌+◌, ℕ, Bool, true, false, nat_lt, if◌then◌else◌}
 use Rattle.std.specs.Prelude.{List, [], ◌∷◌, ◌++◌, length, drop, Option, Some, None}
 use Rattle.kernel_lock.specs.Definition.{Definition}
@@ -24,7 +24,7 @@ new_kept limit first = record { limit = limit; taken_out = first; waiting = []; 
 abbrev pub last_number : Contents → ℕ
 last_number kept = kept.taken_out + length kept.waiting
 
--- Own. The first of Hungup, Worn, Full and Taken that may be answered.
+-- Own. The first of Hungup, Worn, Full and Taken that may be the answer.
 abbrev pub put_reply : Contents → List ℕ → QueueReply
 put_reply kept block =
     if kept.hung then reply.Hungup block
@@ -32,12 +32,12 @@ put_reply kept block =
     else if length kept.waiting == kept.limit then reply.Full block kept.taken_out
     else reply.Taken (last_number kept + 1)
 
--- Own. The first of Block, End and NotYet that may be answered.
+-- Own. The first of Block, End and NotYet that may be the answer.
 abbrev pub take_reply : Contents → List Write → QueueReply
 take_reply kept [] = if kept.hung then reply.End else reply.NotYet kept.taken_out
 take_reply kept (write ∷ writes) = reply.Block write.bytes write.writer (kept.taken_out + 1)
 
--- Own: a put is answered alike whoever its writer is.
+-- Own: the answer to a put does not depend on its writer.
 abbrev pub reply_to : Contents → QueueCall → QueueReply
 reply_to kept (Put writer block) = put_reply kept block
 reply_to kept Take = take_reply kept kept.waiting
@@ -55,8 +55,8 @@ after_reply kept call answer = kept
 abbrev pub kept_after : Contents → QueueCall → Contents
 kept_after kept call = after_reply kept call (reply_to kept call)
 
--- the seat that a call names: a put by its writer, but for the greatest number, after which none
--- is; a take by the reader; anybody may hang up
+-- the seat that a call names: a put names its writer, unless that has the greatest number; a take
+-- names the reader; a hangup, which anybody may make, names none
 abbrev pub named_by : QueueCall → Option ℕ
 named_by (Put writer block) = if nat_lt writer 18446744073709551615 then Some (writer + 1) else None
 named_by Take = Some 0

@@ -25,7 +25,7 @@ use Rattle.block_queue.specs.Places.{AreWords, IsUnstored}
 abbrev pub account_of : View → Account Entry
 account_of view = view.account
 
--- the first seat of a queue, and one that was spent in a join
+-- the first seat of a queue, and a seat that was spent in a join
 abbrev pub first_view : Key → View
 first_view key =
     record { account = first_account key.writers; taken = 0; stage = Free; pasts = [] }
@@ -46,7 +46,7 @@ is_moving (Moving writer block) = true
 abbrev pub IsStageLooking : Stage → Type 0
 IsStageLooking stage = (found : Bool) × (stage ≡ Looking found)
 
--- the put of this number that has not returned, where the seat stands so
+-- the put of this number that has not returned, where the seat is at this stage
 abbrev pub put_at : ℕ → Stage → ℕ → Option ℕ
 put_at first Free number = None
 put_at first (Counted count) number = None
@@ -56,7 +56,7 @@ put_at first (Storing count writer block) number =
 put_at first (Looking found) number = None
 put_at first (Moving writer block) number = None
 
--- a put that saw so many writes accepted: there are no fewer, and one more has a number
+-- a put that saw this many writes accepted: no fewer are accepted, and the next write has a number
 pub record IsCounted (first : ℕ) (s : QueueState) (count : ℕ) : Type 0 where
   pub accepted : count ≤ length s.pipe.accepted
   pub given : first + count < LAST_WRITE
@@ -74,7 +74,7 @@ pub record IsStoring (first : ℕ) (s : QueueState) (shares : List (Share Entry)
   pub unstored : IsUnstored first s write count
   pub own : IsTrue (has_number shares (write.writer + 1))
 
--- a take that found a block left: it is left
+-- a take that found a block left: it still is
 pub record IsLooking (s : QueueState) (reader seat : ℕ) (found : Bool) : Type 0 where
   pub reader_is : reader ≡ seat
   pub left : found ≡ true → s.pipe.read_whole < length s.pipe.accepted
@@ -95,7 +95,8 @@ FitsStage limit first s shares reader seat (Looking found) = IsLooking s reader 
 FitsStage limit first s shares reader seat (Moving writer block) =
     IsMoving first s reader seat (record { writer = writer; bytes = block })
 
--- the reader knows how many blocks were taken out, and has the slot of the next where it is out
+-- the reader knows how many blocks were taken out, and has the slot of the next block where that
+-- slot is out
 pub record IsReader (s : QueueState) (out : Bool) (view : View) : Type 0 where
   pub taken : view.taken ≡ s.pipe.read_whole
   pub out_is : out ≡ is_moving view.stage
@@ -108,9 +109,9 @@ pub record FitsView (limit first : ℕ) (s : QueueState) (out : Bool) (reader se
   pub reader_knows : reader ≡ seat → IsReader s out view
   pub stage : FitsStage limit first s view.account.shares reader seat view.stage
 
--- the rule: one legal history, which each seat has seen in part and in which its own entries stand
--- once; the words and slots are what that history leaves; each seat's stage fits; and what the
--- seats had seen that were joined into it are pasts of that history
+-- the rule: there is one legal history, which each seat has seen in part and which has each of the
+-- seat's own entries once; the words and slots are what that history leaves; each seat's stage
+-- fits; and what the seats that were joined had seen are pasts of that history
 pub record IsOneQueue (key : Key) (t : table.State (Option Write) View) : Type 0 where
   pub ledger : Ledger Entry
   -- whether the slot of the next block is out with the reader

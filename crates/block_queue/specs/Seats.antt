@@ -18,12 +18,12 @@ use Rattle.block_queue.specs.Steps.{Asked}
 abbrev pub Stepper : Type 0
 Stepper = Seat (Option Write) View
 
--- it is one of the queue's, and has this number
+-- the stepper is one of the queue's, and has this number
 pub record IsStepperOf (queue : Queue) (stepper : Stepper) (number : ℕ) : Type 0 where
   pub table : stepper.table_id ≡ queue.table.shared.table_id
   pub own : IsTrue (has_number stepper.me.0.account.shares number)
 
--- a step changes what it knows and holds, and nothing else of it
+-- a step changes what the stepper knows and holds, and nothing else of it
 pub record IsSameStepper (before after : Stepper) : Type 0 where
   pub table : after.table_id ≡ before.table_id
   pub id : after.id ≡ before.id
@@ -32,11 +32,11 @@ pub record IsSameStepper (before after : Stepper) : Type 0 where
 abbrev pub asks : Queue → ℕ → Write → Asked
 asks queue count write = record { key = queue.key; write = write; count = count }
 
--- no write, where a step is asked for none
+-- no write, where the step needs none
 abbrev pub no_write : Write
 no_write = record { writer = 0; bytes = [] }
 
--- it stands between two calls, and holds no slot
+-- the stepper is between two calls, and holds no slot
 pub record IsFreeStepperOf (queue : Queue) (stepper : Stepper) (number : ℕ) : Type 0 where
   pub table : stepper.table_id ≡ queue.table.shared.table_id
   pub own : IsTrue (has_number stepper.me.0.account.shares number)
@@ -56,7 +56,7 @@ put_view seat = head_view seat.badge.views
 abbrev pub take_view : TakeSeat → View
 take_view seat = head_view seat.badge.views
 
--- the seat is one of the queue's, and stands between two calls
+-- the seat is one of the queue's, and is between two calls
 pub record IsPutSeatOf (queue : Queue) (seat : PutSeat) : Type 0 where
   pub table : seat.badge.table_id ≡ queue.table.shared.table_id
   pub views : seat.badge.views ≡ put_view seat ∷ []

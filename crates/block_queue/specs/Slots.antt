@@ -4,7 +4,7 @@ use Rattle.sync_base.specs.Write.{Write}
 use Rattle.block_queue.specs.declared.spare.Payload.{Payload}
 use Rattle.block_queue.specs.declared.spare.Payload.TheVariants.{Block, Memory}
 
--- the block that is kept; of the memory of one nothing is known
+-- the block that is kept; of the memory of a block nothing is known
 abbrev pub block_in : Payload → Option Write
 block_in (Block block) = Some block
 block_in (Memory spare) = None

@@ -1,4 +1,4 @@
--- What each kind of step tells its seat.
+-- What a seat learns from each kind of step.
 use Rattle.std.specs.Prelude.{◌≡◌, ◌≢◌, ℕ, ◌+◌, ◌-◌, ◌<◌, ◌^◌, ◌≤◌, Bool, true, false}
 use Rattle.std.specs.Prelude.{List, [], ◌∷◌, Option, Some, None}
 use Rattle.atomic_table.specs.Table as table
@@ -30,7 +30,7 @@ pub record Asked : Type 0 where
   pub write : Write
   pub count : ℕ
 
--- the seat stands so now, and knows no more than it did
+-- the seat is at this stage now, and knows no more than it did
 abbrev pub staged_view : Stage → View → View
 staged_view stage view = record view { stage = stage }
 
@@ -38,14 +38,14 @@ staged_view stage view = record view { stage = stage }
 abbrev pub saw_hangup : Key → Account Entry → Bool
 saw_hangup key account = (queue_after key account.seen).pipe.hung
 
--- the seat made this entry, and stands so now
+-- the seat made this entry, and is at this stage now
 pub record HasEntered (key : Key) (made : Entry) (stage : Stage) (before after : View) :
     Type 0 where
   pub enters : Enters key made before.account after.account
   pub stage_is : after.stage ≡ stage
   pub taken_is : after.taken ≡ before.taken
 
--- PutTail: the queue is hung up, or the last number is given, or so many writes were accepted
+-- PutTail: the queue is hung up, or the last number was given, or this many writes were accepted
 pub record HasPutTail (asked : Asked) (before : Seated) (found : ℕ) (after : Seated) : Type 0 where
   pub slots : after.1 ≡ before.1
   pub hungup : MARK ≤ found →
@@ -58,7 +58,7 @@ pub record HasPutTail (asked : Asked) (before : Seated) (found : ℕ) (after : S
   -- a seat that has seen a hangup finds the mark
   pub fresh : found < MARK → saw_hangup asked.key before.0.account ≡ false
 
--- PutSequence: all places are taken, or another write was put there first, or it is free
+-- PutSequence: all places are taken, or another write was put there first, or the place is free
 pub record HasPutSequence (asked : Asked) (before : Seated) (found : ℕ) (after : Seated) :
     Type 0 where
   pub slots : after.1 ≡ before.1
@@ -70,7 +70,7 @@ pub record HasPutSequence (asked : Asked) (before : Seated) (found : ℕ) (after
       after.0 ≡ staged_view (Placed asked.count) before.0
   pub passed : free_word asked.key.limit asked.count < found → after.0 ≡ staged_view Free before.0
 
--- Accept: the write was accepted, or another one was, or the queue was hung up
+-- Accept: the write was accepted, or another write was, or the queue was hung up
 pub record HasAccepted (asked : Asked) (before : Seated) (found : ℕ) (after : Seated) : Type 0 where
   pub entered : found ≡ asked.count → HasEntered asked.key
       (entry.Taken asked.write.writer asked.write.bytes (asked.key.first + asked.count + 1))
@@ -95,7 +95,8 @@ pub record HasTakeReady (key : Key) (before : Seated) (found : ℕ) (after : Sea
   pub passed : found ≢ stored_word key.limit before.0.taken → after ≡ before
   pub small : before.0.taken < 2 ^ 62
 
--- TakeTail: all is taken out and no more will come; or else, and whether a block is left
+-- TakeTail: all blocks are taken out and no more will come; or not, and then whether a block is
+-- left
 pub record HasTakeTail (key : Key) (before : Seated) (found : ℕ) (after : Seated) : Type 0 where
   pub slots : after.1 ≡ before.1
   pub ended : found ≡ before.0.taken + MARK → HasEntered key entry.End Free before.0 after.0
@@ -110,7 +111,7 @@ pub record HasTakeSequence (key : Key) (before : Seated) (found : ℕ) (after : 
   pub not_yet : found ≢ stored_word key.limit before.0.taken →
       HasEntered key (entry.NotYet (key.first + before.0.taken)) Free before.0 after.0
   pub same_slots : found ≢ stored_word key.limit before.0.taken → after.1 ≡ before.1
-  -- where a block is left, it is one that does not stand yet
+  -- where a block is left, the next block does not stand yet
   pub left : found ≢ stored_word key.limit before.0.taken → before.0.stage ≡ Looking true →
       next_write (queue_after key after.0.account.seen).pipe ≢ None
   pub moving : found ≡ stored_word key.limit before.0.taken → (write : Write) ×
@@ -167,7 +168,7 @@ pub record HasToHand (view : View) : Type 0 where
   pub next_is : 0 < next.number
   pub stage_is : view.stage ≡ Free
 
--- Join: the reader has the numbers of both, and has seen what either saw
+-- Join: the reader has the numbers of both seats, and has seen what either saw
 abbrev pub joined_view : View → View → View
 joined_view first second =
     record {

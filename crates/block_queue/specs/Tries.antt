@@ -1,4 +1,4 @@
--- What one round of a put came to, and the rest of a take.
+-- How one round of a put ended, and the rest of a take.
 use Rattle.std.specs.Prelude.{◌≡◌, ℕ, ◌+◌, ◌<◌, ◌^◌, List, [], ◌∷◌, Some, ⊤}
 use Rattle.sync_base.specs.Write.{Write}
 use Rattle.block_queue.specs.Calls.{Takes, IsFreshTake, blocks_in}

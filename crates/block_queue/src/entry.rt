@@ -2,8 +2,8 @@
 //! no memory.
 use sync_base::Piece;
 
-/// What one call did, as the history of a queue keeps it. The reader is seat 0, and writer w is
-/// seat w + 1.
+/// What one call did, as an entry of a queue's history. The reader is seat 0, and writer w is seat
+/// w + 1.
 pub enum Entry {
     /// A put was accepted, and the write has this number.
     Taken {
@@ -11,7 +11,7 @@ pub enum Entry {
         block: Piece,
         number: u64,
     },
-    /// The put of that write has returned.
+    /// The put of the write with this number has returned.
     Stood {
         writer: u64,
         number: u64,
@@ -27,7 +27,7 @@ pub enum Entry {
         writer: u64,
         block: Piece,
     },
-    /// A put found the last number given.
+    /// A put found that the last number was given.
     Worn {
         writer: u64,
         block: Piece,
@@ -42,7 +42,7 @@ pub enum Entry {
     NotYet {
         number: u64,
     },
-    /// A take found that all is taken out and no more will come.
+    /// A take found that all blocks are taken out and no more will come.
     End,
     /// The queue was hung up.
     Hung {

@@ -53,7 +53,7 @@ pub struct Ungathered {
 }
 
 impl Ungathered {
-    /// Why: out of memory, which is the one refusal of a gather.
+    /// Why: out of memory, the only refusal of a gather.
     pub fn fault(&self) -> Fault
         ensures { result ≡ Fault.Memory }
     {
@@ -62,7 +62,7 @@ impl Ungathered {
 }
 
 impl Queue {
-    /// Takes all that is left out of the queue, with all its seats. It waits for nobody.
+    /// Takes out of the queue all that is left, with all its seats. It waits for nobody.
     ///
     /// Where there is no memory all seats come back.
     pub fn gather(
@@ -123,7 +123,7 @@ impl Queue {
         }
     }
 
-    /// Makes one seat of the reader's and a writer's.
+    /// Makes one seat of the reader's seat and a writer's seat.
     // Step Join: join of two seats, a load of the tail.
     // Seat: Free, with the numbers of both and the longer of what they had seen, and it keeps both.
     // The other is spent.

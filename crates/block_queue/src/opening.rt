@@ -31,7 +31,7 @@ use std::alloc::{AllocError, Global};
 use sync_base::Fault;
 use sync_base::limits::{LAST_WRITE, MAX_PIPE_LIMIT, MAX_WRITERS};
 
-/// A new queue, the seat of its reader, and those of its writers in order.
+/// A new queue, the seat of its reader, and the seats of its writers in order.
 #[derive(Drop)]
 pub struct Opened {
     pub queue: Queue,
@@ -75,7 +75,7 @@ impl Queue {
         Queue::new_from(alloc, limit, writers, 0)
     }
 
-    /// The same, and its first write has the number `first` + 1.
+    /// The same, but its first write has the number `first` + 1.
     ///
     /// BadSize: the limit is not from 1 to 1,024, or the writers are not from 1 to 64.
     /// BadArg: `first` is above the number of the last write.

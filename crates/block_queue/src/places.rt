@@ -1,6 +1,6 @@
-//! Where the ring keeps what. The first word is the tail, and has its line to itself: all writers
-//! step on it, and the reader on the others. After that line stand two words for each place, of
-//! which the first is its sequence word, so that a line has four places: with eight, writers and
+//! Where the ring keeps each thing. The first word is the tail, and has its line to itself: all
+//! writers use it, and the reader uses the others. After that line come two words for each place,
+//! of which the first is its sequence word, so that a line has four places: with eight, writers and
 //! the reader took it from each other. Each place has a slot. The writes are counted from 0, and
 //! write c is kept in place c mod limit.
 ghost use Rattle.std.specs.Prelude.{◌≡◌, ◌<◌, ◌^◌};
@@ -37,7 +37,7 @@ pub(crate) fn sequence(place: usize) -> usize
     LINE as usize + 2 * place
 }
 
-/// How many words a ring of so many places has.
+/// How many words a ring of `limit` places has.
 pub(crate) fn ring_words(limit: u64) -> usize
     requires { ring_words limit < 18446744073709551616 }
     ensures { result ≡ ring_words limit }
@@ -45,7 +45,7 @@ pub(crate) fn ring_words(limit: u64) -> usize
     (LINE + 2 * limit) as usize
 }
 
-/// What the word of its place is before a write is put there.
+/// The word of a write's place before the write is put there.
 pub(crate) fn free(limit: u64, count: u64) -> u64
     requires limit { 0 < limit }
     requires small { count < 2 ^ 62 }
@@ -54,7 +54,7 @@ pub(crate) fn free(limit: u64, count: u64) -> u64
     2 * (count / limit)
 }
 
-/// What it is while the write stands there.
+/// The word of a write's place while the write stands there.
 pub(crate) fn stored(limit: u64, count: u64) -> u64
     requires limit { 0 < limit }
     requires small { count < 2 ^ 62 }

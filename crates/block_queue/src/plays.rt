@@ -1,4 +1,4 @@
-//! What each kind of step tells its seat. These types are for the proofs alone.
+//! What a seat learns from each kind of step. These types are for the proofs alone.
 ghost use Rattle.std.specs.Prelude.{[]};
 ghost use Rattle.block_queue.specs.GatherSteps.{HasSurveyed};
 ghost use Rattle.block_queue.specs.Rule.{spent_view};
@@ -22,7 +22,7 @@ use crate::view::View;
 use atomic_table::{Play, Split};
 use std::marker::{Brand, PhantomData};
 
-/// What a step is asked for. Each call of a step picks it.
+/// What a step is asked for. Each call of a step picks its own.
 pub trait Asks {
     ghost use Rattle.block_queue.specs.Steps.{Asked};
 

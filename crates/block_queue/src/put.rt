@@ -42,10 +42,10 @@ impl Queue {
     /// came first, and looks some microseconds for room before it answers `Full`. It takes no
     /// memory.
     ///
-    /// Answers `Hungup` where the queue is hung up, `Worn` where the last number is given, `Full`
-    /// where as many blocks stand as the limit allows, and else `Taken`. Where the queue is full
-    /// and hung up, it may be either of `Full` and `Hungup`, but not `Full` to a seat that knew of
-    /// the hangup. A block that is not taken comes back.
+    /// Answers `Hungup` where the queue is hung up, `Worn` where the last number was given, `Full`
+    /// where the queue has as many blocks as the limit allows, and else `Taken`. Where the queue is
+    /// full and hung up, the answer may be either `Full` or `Hungup`, but not `Full` to a seat that
+    /// knew of the hangup. A block that is not taken comes back.
     pub fn put<R: Wait>(&self, rt: &R, seat: &mut PutSeat, block: Piece) -> PutAnswer
         requires seat { IsPutSeatOf self.now seat.old }
         ensures seat { IsPutSeatOf self.now seat.new }
@@ -60,7 +60,8 @@ impl Queue {
         self.put_probed(rt, seat, block, &mut NoProbe)
     }
 
-    /// A `put` that tells a probe before each of its steps, from 1 to 5, and 6 at the end.
+    /// A `put` that calls its probe before each of its steps, at its points 1 to 5, and at 6 at the
+    /// end.
     pub fn put_probed<R: Wait, P: Probe>(
         &self,
         rt: &R,

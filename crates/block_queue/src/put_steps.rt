@@ -1,5 +1,5 @@
-//! The steps of a put, a function each. Above each step stand the seat before and after it, and why
-//! the rule stays. All orderings are the table's.
+//! The steps of a put, a function each. The comment above each step has the seat before and after
+//! it, and why the rule stays. All orderings are the table's.
 ghost use Rattle.std.specs.Prelude.{◌≡◌, ◌+◌, ◌<◌, [], ◌∷◌, None, Some, IsTrue};
 ghost use Rattle.std.specs.Bool.{OnTrue, OnFalse};
 ghost use Rattle.histories.specs.Account.{has_number};
@@ -61,7 +61,7 @@ impl Queue {
         self.table.shared.load::<PutSequence<M>>(seat, word)
     }
 
-    /// Claims the place, and with it the number of the write. Answers what the tail was.
+    /// Claims the place, and with it the number of the write. Returns what the tail was.
     // Step Accept: compare_exchange of the tail from the count to one more. Where it succeeds the
     // slot of the place is the seat's.
     // Seat: Placed, then Storing, with the entry Taken; or Free, to begin again.
@@ -102,7 +102,7 @@ impl Queue {
             .into_spare()
     }
 
-    /// Says that the block stands.
+    /// Marks the place: the block stands.
     // Step Store: store of the sequence word of its place. The slot is at home again.
     // Seat: Storing, then Free with the entry Stood.
     // Keeps the rule: no read has begun the write, and its block lies in the slot.

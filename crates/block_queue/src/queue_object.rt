@@ -16,7 +16,7 @@ use sync_base::{Fault, Piece};
 /// A call on a queue.
 #[derive(Drop)]
 pub enum QueueCall {
-    /// Puts the block of this writer after the others. Any number may be a writer's.
+    /// Puts the block of this writer after the others. A writer may have any number.
     Put(u64, Piece),
     /// Takes the next block out.
     Take,
@@ -24,22 +24,23 @@ pub enum QueueCall {
     Hang,
 }
 
-/// What a queue replies. A block that was not taken comes back.
+/// The reply of a queue. A block that was not taken comes back.
 #[derive(Drop)]
 pub enum QueueReply {
     /// The put was accepted, with this number.
     Taken(u64),
-    /// As many blocks stand as there is room for. The number is that of the last block taken out.
+    /// The queue has as many blocks as it has room for. The number is that of the last block taken
+    /// out.
     Full(Piece, u64),
     /// The queue is hung up.
     Hungup(Piece),
-    /// The last number is given.
+    /// The last number was given.
     Worn(Piece),
-    /// The next block, who wrote it, and its number.
+    /// The next block, the number of its writer, and the number of the write.
     Block(Piece, u64, u64),
-    /// No block stands. The number is that of the last block taken out.
+    /// The queue has no block. The number is that of the last block taken out.
     NotYet(u64),
-    /// No block stands and the queue is hung up, so no more will come.
+    /// The queue has no block and is hung up, so no more will come.
     End,
     /// The queue is hung up.
     Hung,
@@ -158,7 +159,7 @@ impl Object for QueueObject {
         }
     }
 
-    /// Answers the call: the first reply that may be given. It takes no memory.
+    /// Answers the call with the first reply that may be given. It takes no memory.
     fn run(&mut self, call: QueueCall) -> QueueReply {
         match call {
             QueueCall::Put(writer, block) => self.put(writer, block),

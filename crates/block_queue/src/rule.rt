@@ -6,9 +6,9 @@ use crate::view::{Key, View};
 use atomic_table::{Seat, Table, TableRule};
 use std::alloc::Global;
 
-/// There is one legal history. Each seat has seen a past of it, and its own entries stand in it
-/// once each. The tail counts the writes that it accepted, with the mark where it was hung up, and
-/// the places hold the blocks that it has left.
+/// There is one legal history. Each seat has seen a past of it, and it has each of the seat's own
+/// entries once. The tail counts the writes that the history accepted, with the mark where it was
+/// hung up, and the places hold the blocks that it has left.
 pub struct OneQueue;
 
 pub type QueueTable = Table<Slot, View, Key, OneQueue, Global>;

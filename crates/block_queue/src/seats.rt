@@ -1,4 +1,4 @@
-//! The seats of a queue: what its threads call it with.
+//! The seats of a queue: its threads call it with them.
 ghost use Rattle.std.specs.Prelude.{◌≡◌, [], ◌∷◌};
 ghost use Rattle.block_queue.specs.Seats.{put_view, take_view};
 
@@ -34,7 +34,8 @@ impl PutSeat {
         self.writer
     }
 
-    /// What the seat makes its steps with. A blank badge stands in for what it knows until `sit`.
+    /// The stepper with which the seat makes its steps. A blank badge stands in for what it knows
+    /// until `sit`.
     pub(crate) fn take_token(&mut self) -> Stepper
         requires { self.old.badge.views ≡ put_view self.old ∷ [] }
         ensures table { result.table_id ≡ self.old.badge.table_id }
@@ -55,7 +56,8 @@ impl PutSeat {
 }
 
 impl TakeSeat {
-    /// What the seat makes its steps with. A blank badge stands in for what it knows until `sit`.
+    /// The stepper with which the seat makes its steps. A blank badge stands in for what it knows
+    /// until `sit`.
     pub(crate) fn take_token(&mut self) -> Stepper
         requires { self.old.badge.views ≡ take_view self.old ∷ [] }
         ensures table { result.table_id ≡ self.old.badge.table_id }

@@ -1,5 +1,5 @@
-//! Memory that comes back, and what a slot of the ring keeps. A reader leaves the memory of a block
-//! that it has read in a slot, where a writer finds it.
+//! Memory that comes back, and the contents of a slot of the ring. A reader leaves the memory of a
+//! block that it has read in a slot, where a writer finds it.
 use crate::stored_block::StoredBlock;
 use std::alloc::Global;
 use std::marker::Model;
@@ -34,8 +34,8 @@ impl Spare {
         }
     }
 
-    /// A block of these bytes, in this memory. It takes more only where this is too small, and then
-    /// just as much as it needs. Where that is refused the memory comes back.
+    /// A block of these bytes, in this memory. It takes more memory only where this is too small,
+    /// and then just as much as it needs. Where the system refuses, the memory comes back.
     pub fn filled(self, alloc: Global, bytes: &[u8]) -> Result<Piece, Spare>
         ensures { IfOk result (λ block. block ≡ bytes.now) }
     {
@@ -67,7 +67,7 @@ impl Spare {
         }
     }
 
-    /// Keeps that memory, where there is some. What was kept before is given back.
+    /// Keeps that memory, where there is some. Memory that was kept before is given back.
     pub fn keep(&mut self, spare: Spare) {
         if spare.bytes.is_some() {
             self.bytes = spare.bytes;
@@ -78,7 +78,7 @@ impl Spare {
     pub(crate) fn free(self) {}
 }
 
-/// What a slot keeps: a block, or the memory of one.
+/// The contents of a slot: a block, or the memory of a block.
 #[derive(Drop)]
 pub struct Slot {
     kept: Payload,

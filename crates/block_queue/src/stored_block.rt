@@ -1,8 +1,8 @@
-//! A block as the object and the ring hold it, and as what is left of a queue is given back.
+//! A block in the object and in the ring, and in what is left of a queue.
 use std::marker::Model;
 use sync_base::Piece;
 
-/// A block that stands in a queue, and who wrote it.
+/// A block in a queue, and the number of its writer.
 #[derive(Drop)]
 pub struct StoredBlock {
     /// The number of its writer, from 0 on.

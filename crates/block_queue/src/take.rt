@@ -47,7 +47,7 @@ impl Queue {
     ///
     /// Answers `End` where the queue is hung up and all that was accepted is taken out, `NotYet`
     /// where no block is left or the put of the next one has not returned, and else `Block`. A seat
-    /// that knew of the hangup is answered `NotYet` only while a block is left.
+    /// that knew of the hangup gets `NotYet` only while a block is left.
     #[inline(always)]
     pub fn take(&self, seat: &mut TakeSeat) -> TakeAnswer
         requires seat { IsTakeSeatOf self.now seat.old }
@@ -63,11 +63,11 @@ impl Queue {
         self.take_probed(seat, &mut NoProbe)
     }
 
-    /// A `take` that tells a probe its points: 1 before it loads the tail, 2 before it loads the
-    /// sequence word, 3 before the block leaves its slot, and 4 before its place is free.
+    /// A `take` that calls its probe at its points: 1 before it loads the tail, 2 before it loads
+    /// the sequence word, 3 before the block leaves its slot, and 4 before its place is free.
     ///
-    /// It has a quick look at the place before point 1. Where the block stands there, both points
-    /// are passed and neither word is loaded again.
+    /// It has a quick look at the place before point 1. Where the block stands there, points 1 and
+    /// 2 are passed and neither word is loaded again.
     #[inline(always)]
     pub fn take_probed<P: Probe>(&self, seat: &mut TakeSeat, probe: &mut P) -> TakeAnswer
         requires seat { IsTakeSeatOf self.now seat.old }

@@ -1,5 +1,5 @@
-//! The steps of a take and of a hangup, a function each. Above each step stand the seat before and
-//! after it, and why the rule stays.
+//! The steps of a take and of a hangup, a function each. The comment above each step has the seat
+//! before and after it, and why the rule stays.
 ghost use Rattle.std.specs.Prelude.{◌≡◌, ◌+◌, ◌<◌, ◌^◌, [], ◌∷◌, None, Some};
 ghost use Rattle.block_queue.specs.declared.view.Stage.TheVariants.{Free, Moving};
 ghost use Rattle.block_queue.specs.Places.{place_of};
@@ -16,7 +16,7 @@ use crate::spare::{Slot, Spare};
 use crate::stored_block::StoredBlock;
 
 impl Queue {
-    /// Reads whether the next block stands, before it is asked why none does.
+    /// Reads whether the next block stands, before the tail is asked why it does not.
     // Step TakeReady: load of the sequence word of its place. Where the block stands the slot is
     // the seat's.
     // Seat: Free, then Moving; or as it was.

@@ -8,27 +8,27 @@ use sync_base::Piece;
 /// What is fixed when a queue is made.
 #[derive(Clone, Copy, Drop)]
 pub struct Key {
-    /// How many blocks may stand.
+    /// How many blocks the queue may have.
     pub limit: u64,
     /// The first write has the number `first` + 1.
     pub first: u64,
     pub writers: u64,
 }
 
-/// Where a seat stands between two steps.
+/// Where a seat is between two steps.
 pub enum Stage {
     Free,
-    /// A put found the queue not hung up, with so many writes accepted.
+    /// A put found the queue not hung up, with this many writes accepted.
     Counted(u64),
     /// It then found the place of the next write free.
     Placed(u64),
-    /// Its write was accepted, after so many others, and it has the slot of its place.
+    /// Its write was accepted, after `count` others, and it has the slot of its place.
     Storing {
         count: u64,
         writer: u64,
         block: Piece,
     },
-    /// A take found that the queue has not ended, and whether a block was left.
+    /// A take found that the queue has not ended; and whether a block was left.
     Looking(bool),
     /// It has the slot of the next block.
     Moving {
@@ -43,6 +43,7 @@ pub struct View {
     /// How many blocks the reader has taken out.
     pub taken: u64,
     pub stage: Stage,
-    /// What each seat had seen that was joined into this one, and this one before each join.
+    /// What each seat that was joined into this one had seen, and what this one had seen before
+    /// each join.
     pub pasts: LinkedList<LinkedList<Entry>>,
 }

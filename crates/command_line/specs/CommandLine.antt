@@ -18,7 +18,7 @@ use Rattle.sync_base.specs.declared.threads_opts.ThreadsOpts.{ThreadsOpts}
 use Rattle.command_line.specs.declared.task.Task.{Task}
 use Rattle.command_line.specs.declared.task.Task.TheVariants.{Pipe, Replay, Threads}
 
--- the run of a word alone, spelled exactly so
+-- the run of a word alone, spelled exactly like this
 abbrev pub task_named : List ℕ → Option Task
 task_named word =
     if bytes_eq word (codes "pipe") then Some Pipe
@@ -51,7 +51,7 @@ opts_asked rows = option_and_then (λ writers. option_and_then (λ writes.
     (option_asked (codes "writes") rows))
     (option_asked (codes "writers") rows)
 
--- a command on which another has to follow
+-- a command that has to be followed by another
 abbrev pub needing_command : Shape → Shape
 needing_command s =
     record s {
@@ -84,7 +84,7 @@ threads_command = record (new_shape (codes "threads")) {
       ∷ [];
 }
 
--- the command line as `clap` is told of it
+-- the command line as `clap` gets it
 abbrev pub command_line : App
 command_line =
     let top = on_top needing_command (new_app (codes "p9sync")) in

@@ -1,4 +1,4 @@
-//! The grammar of the command line, as `clap` is told of it.
+//! The grammar of the command line, for `clap`.
 ghost use Rattle.std.specs.Prelude.{◌≡◌, IfOk, false};
 ghost use Rattle.clap.specs.Simple.{app_of, shape_of};
 ghost use Rattle.clap.specs.Walk.{rule_of};
@@ -17,7 +17,7 @@ pub const WRITES: &str = "writes";
 
 pub const SIZE: &str = "size";
 
-/// The grammar of the command line. Help and a version are no part of it.
+/// The grammar of the command line. Help and a version are not part of it.
 pub fn command<'a>(alloc: Global) -> Result<Command<'a>, AllocError>
     ensures { IfOk result (λ command. app_of command ≡ command_line) }
 {

@@ -1,5 +1,5 @@
-//! The command line of `p9sync`: its grammar, and what its words ask for.
-//! Reading order: `grammar`, `task`.
+//! The command line of `p9sync`: its grammar, and the task that its words ask for. Reading order:
+//! `grammar`, `task`.
 #![tactic(auto)]
 
 mod grammar;

@@ -55,7 +55,7 @@ fn parse_task(word: &str, given: &ArgMatches<'_>) -> Option<Task>
     }
 }
 
-/// What the options of `threads` say.
+/// What the options of `threads` ask for.
 fn parse_opts(given: &ArgMatches<'_>) -> Option<ThreadsOpts>
     ensures { result ≡ opts_asked (rows_of (found_of given.now)) }
 {

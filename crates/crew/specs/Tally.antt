@@ -6,8 +6,8 @@ use Rattle.sync_base.specs.declared.threads_opts.ThreadsOpts.{ThreadsOpts}
 use Rattle.crew.specs.declared.tally.Tally.{Tally}
 use Rattle.crew.specs.Message.{message_of}
 
--- The piece is, whole, the next message of its writer, each of whom has so many messages of this
--- size: and then the one after it is the next.
+-- The piece is, whole, the next message of its writer, and each writer has this many messages of
+-- this size; the message after it is the next then.
 pub record TakesNext (each size : ℕ) (old new : List ℕ) (piece : List ℕ) : Type 0 where
   pub writer : ℕ
   pub number : ℕ
@@ -40,7 +40,7 @@ pub record CountsNext (old new : Tally) (piece : List ℕ) : Type 0 where
   pub writes : new.writes ≡ old.writes + 1
   pub bytes : new.bytes ≡ old.bytes + length piece
 
--- the report says what was counted, of so many writers
+-- the report says what was counted, for this many writers
 pub record ReportsTally (writers : ℕ) (tally : Tally) (report : Report) : Type 0 where
   pub writers_is : report.writers ≡ writers
   pub writes : report.writes ≡ tally.writes

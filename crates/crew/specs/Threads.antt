@@ -1,4 +1,4 @@
--- What a run on threads is asked for, and what it answers.
+-- What a run on threads is asked for, and what it reports.
 use Rattle.std.specs.Prelude.{◌≡◌, ◌≤◌, ◌*◌, ℕ, Bool, true, false, List, [], ◌∷◌}
 use Rattle.sync_base.specs.declared.limits.TheConstants.{MAX_WRITERS}
 use Rattle.sync_base.specs.declared.limits.TheConstants.{LEAST_SIZE, MOST_SIZE, MAX_WRITES}
@@ -9,7 +9,7 @@ use Rattle.block_queue.specs.declared.entry.Entry.{Entry}
 use Rattle.block_queue.specs.declared.entry.Entry.TheVariants.{End, Hung}
 use Rattle.crew.specs.declared.opts.Report.{Report}
 
--- a number lies between two others
+-- a number is between two others, or one of them
 pub record IsBetween (least most n : ℕ) : Type 0 where
   pub at_least : least ≤ n
   pub at_most : n ≤ most
@@ -27,8 +27,8 @@ WhyNotRun opts fault.Memory = AreWithin opts
 WhyNotRun opts fault.Device = AreWithin opts
 WhyNotRun opts other = ⊥
 
--- What a run with these options may report: how many writers there were, and where all was in
--- order just the bytes of so many messages, no more than the writers have together.
+-- What a run with these options may report: how many writers there were and, where all was in
+-- order, just the bytes of the messages that it counts, no more than the writers have together.
 pub record IsReportOf (opts : ThreadsOpts) (report : Report) : Type 0 where
   pub writers : report.writers ≡ opts.writers
   pub whole : report.in_order ≡ true → report.bytes ≡ report.writes * opts.size

@@ -6,13 +6,13 @@ use Rattle.crew.specs.declared.crew.Writer.{Writer}
 use Rattle.sync_base.specs.declared.threads_opts.ThreadsOpts.{ThreadsOpts}
 use Rattle.crew.specs.Message.{message_of}
 
--- the first so many messages of this writer, each of this size
+-- the first messages of this writer, this many, each of this size
 abbrev pub messages_of : ℕ → ℕ → ℕ → List (List ℕ)
 messages_of size writer zero = []
 messages_of size writer (suc count) =
     messages_of size writer count ++ message_of size writer count ∷ []
 
--- after these its end has written just the messages that the writer counts
+-- the end has written these and then just the messages that the writer counts
 abbrev pub CountsAll : List (List ℕ) → Writer → Type 0
 CountsAll before writer = HasWrittenJust writer.end
     (before ++ messages_of (vec_len writer.message) writer.number writer.done)
@@ -25,7 +25,8 @@ pub record IsReadyWriter (opts : ThreadsOpts) (writer : Writer) : Type 0 where
   pub none : writer.done ≡ 0
   pub well : writer.wrote ≡ Ok tt
 
--- the writer has written on: it is the same one, and counts all that its end has written if it did
+-- the writer has written on: it is the same writer, and if it counted all that its end had written,
+-- it still does
 pub record HasWrittenOn (old new : Writer) : Type 0 where
   pub end : IsSameWriteEnd old.end new.end
   pub number : new.number ≡ old.number
@@ -33,7 +34,7 @@ pub record HasWrittenOn (old new : Writer) : Type 0 where
   pub size : vec_len new.message ≡ vec_len old.message
   pub counts : (before : List (List ℕ)) → CountsAll before old → CountsAll before new
 
--- it writes no more: all are written, the gate may stop it here, or a write was refused
+-- the writer stopped: all messages are written, the gate may stop it here, or a write was refused
 abbrev pub HasEnded : {G : Type 0} → (G → ℕ → ℕ → Type 0) → G → Writer → Type 0
 HasEnded may_stop gate writer = OnOk writer.wrote
     ((writer.done ≡ writer.writes) ⊎ may_stop gate writer.number writer.done)

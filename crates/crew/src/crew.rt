@@ -116,7 +116,7 @@ impl<'p> Writer<'p> {
         HungWriter { end }
     }
 
-    /// Why it wrote no more, if a write was refused.
+    /// Why the writer stopped, if a write was refused.
     pub fn wrote(&self) -> Result<(), Fault> {
         self.wrote
     }
@@ -133,8 +133,8 @@ pub struct Reader<'p> {
     ghost of: { IsTallyOf opts tally },
 }
 
-/// What a reader has counted of a run with these options, and why it read no more, if it did not
-/// come to the end. What a thread returns is known by its type alone, so the options stand in it.
+/// What a reader has counted of a run with these options, and why it stopped, if it did not come to
+/// the end. What a thread returns is known by its type alone, so the options are part of it.
 #[derive(Drop)]
 pub struct Counted<'p> {
     end: ReadEnd<'p>,
@@ -169,7 +169,7 @@ impl<'p> Reader<'p> {
         })
     }
 
-    /// Reads and counts, block by block, until the end. Where it can read no more it hangs the pipe
+    /// Reads and counts, block by block, until the end. Where it can't read on, it hangs the pipe
     /// up.
     #[tactic(auto, using(crate::proofs::CrewLemmas::still_of, crate::proofs::WritingLemmas::at_end))]
     pub fn read_all<R: Wait>(self, rt: &R) -> Counted<'p>
@@ -214,12 +214,12 @@ impl<'p> Counted<'p> {
     ghost use Rattle.crew.specs.Tally.{ReportsTally};
     ghost use Rattle.crew.specs.Threads.{IsReportOf};
 
-    /// Why it did not come to the end, if it did not.
+    /// Why the reader did not come to the end, if it did not.
     pub fn read_to_end(&self) -> Result<(), Fault> {
         self.read
     }
 
-    /// What was read up to the end, or why it did not come to the end. `Device` where it was
+    /// What was read up to the end, or why the reader did not come to the end. `Device` where it
     /// counted for a run with other options.
     pub fn report(&self, opts: &ThreadsOpts) -> Result<Report, Fault>
         ensures fault { IfErr self.now.read (λ fault. result ≡ Err fault) }
@@ -234,7 +234,7 @@ impl<'p> Counted<'p> {
     }
 }
 
-/// Who takes part in a run.
+/// The writers and the reader of a run.
 #[derive(Drop)]
 pub struct Crew<'p> {
     pub reader: Reader<'p>,

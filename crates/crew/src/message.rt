@@ -1,11 +1,11 @@
-//! What a writer writes, so that a reader can tell whose it is and which.
+//! What a writer writes, so that a reader knows the writer and the number of each message.
 
 ghost use Rattle.std.specs.Prelude.{◌≡◌, ◌≤◌, length};
 ghost use Rattle.crew.specs.Message.{message_of};
 
 use sync_base::limits::LEAST_SIZE;
 
-/// The bytes of a message's head: its writer, and its number among that writer's.
+/// The bytes of a message's head: its writer, and its number among that writer's messages.
 pub const HEAD: usize = LEAST_SIZE as usize;
 
 /// Fills a message: its writer and its number, each as 8 bytes with the highest first, and then

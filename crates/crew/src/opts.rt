@@ -1,11 +1,11 @@
-//! Whether what a run on threads is asked for lies within the limits, and what it answers.
+//! Whether the options of a run on threads are within the limits, and what the run reports.
 ghost use Rattle.std.specs.Prelude.{◌≡◌, ◌≤◌, ◌*◌, ◌↔◌, true};
 ghost use Rattle.crew.specs.Threads.{AreWithin, IsBetween};
 
 use sync_base::ThreadsOpts;
 use sync_base::limits::{LEAST_SIZE, MAX_WRITERS, MAX_WRITES, MOST_SIZE};
 
-/// Whether each option lies within its limits.
+/// Whether each option is within its limits.
 pub fn is_within(opts: &ThreadsOpts) -> bool
     ensures { (result ≡ true) ↔ AreWithin opts.now }
 {

@@ -89,7 +89,7 @@ impl Tally {
     ghost use Rattle.crew.specs.Tally.{ReportsTally};
     ghost use Rattle.crew.specs.Threads.{AreWithin, IsReportOf};
 
-    /// Nothing was read.
+    /// A tally of nothing read.
     pub fn new(alloc: Global, opts: &ThreadsOpts) -> Result<Tally, AllocError>
         requires { AreWithin opts.now }
         ensures of { IfOk result (IsTallyOf opts.now) }
@@ -108,7 +108,7 @@ impl Tally {
         })
     }
 
-    /// Counts a piece that was read. What is out of order stays so.
+    /// Counts a piece that was read. Once a piece was out of order, the tally stays out of order.
     pub fn count(&mut self, piece: &[u8])
         ensures run { AreOfOneRun self.old self.new }
         ensures counted { self.new.in_order ≡ true → CountsNext self.old self.new piece.now }
@@ -123,7 +123,7 @@ impl Tally {
         }
     }
 
-    /// What was read, of so many writers.
+    /// The report of what was read, from this many writers.
     pub fn report(&self, writers: u64) -> Report
         ensures told { ReportsTally writers self.now result }
         ensures of { (opts : ThreadsOpts) → opts.writers ≡ writers → IsTallyOf opts self.now

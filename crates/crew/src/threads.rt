@@ -25,15 +25,15 @@ pub const LIMIT: u64 = 16;
 
 const _: () = prove!(LIMIT == 16);
 
-/// Runs so many writers and one reader, each on a thread of its own, on one direction of a pipe:
-/// each writer writes its messages, which are those of `message`, and the reader reads until the
-/// end. It hangs the pipe up when all writers have returned, and answers what was read. It waits.
+/// Runs many writers and one reader, each on a thread of its own, on one direction of a pipe: each
+/// writer writes its messages, which are those of `message`, and the reader reads until the end. It
+/// hangs the pipe up when all writers have returned, and reports what was read. It waits.
 ///
 /// Refuses, in this order, as `BadArg` outside the limits of `ThreadsOpts`, as `Memory`, and as
 /// `Device` where a thread can't be started; then all others have been joined.
 ///
-/// A read or a write that is refused for another reason than memory would be told as `Device` too:
-/// a note, or a hangup by somebody else. Nobody but the crew has the run's processes and ends.
+/// A read or a write that is refused for another reason than memory would be reported as `Device`
+/// too: a note, or a hangup by somebody else. Nobody but the crew has the run's processes and ends.
 pub fn run_threads<R: Threads + Wait + Sync, G: Gate + Sync>(
     alloc: Global,
     rt: &R,

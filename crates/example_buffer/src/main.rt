@@ -1,5 +1,5 @@
-//! A bounded buffer: a producer fills four places, and a consumer empties them, until ten ticks go
-//! by with no item. One semaphore counts the free places, and one the items.
+//! A bounded buffer: a producer fills four places, and a consumer empties them, until ten ticks
+//! pass with no item. One semaphore counts the free places, another the items.
 #![tactic(auto)]
 
 use plan9::{
@@ -14,7 +14,7 @@ use std::time::Clock as Now;
 
 type Places = [AtomicU64; 4];
 
-/// A side of the buffer takes a unit of one semaphore, and gives one of the other. So it is two
+/// A side of the buffer takes a unit of one semaphore, and gives one to the other. So it is two
 /// processes.
 #[derive(Drop)]
 struct Side<'s, 'k> {
@@ -33,7 +33,7 @@ fn fill<R: Wait>(rt: &R, side: &mut Side<'_, '_>, places: &Places) -> Result<(),
     Ok(())
 }
 
-/// Takes items out, until none comes within ten ticks, and gives their sum.
+/// Takes items out, until none comes within ten ticks, and returns their sum.
 fn empty<R: Wait>(rt: &R, side: &mut Side<'_, '_>, places: &Places) -> Result<u64, Fault> {
     let mut sum = 0u64;
     for item in 1..=u64::MAX {
@@ -47,7 +47,7 @@ fn empty<R: Wait>(rt: &R, side: &mut Side<'_, '_>, places: &Places) -> Result<u6
     Ok(sum)
 }
 
-/// The producer fills the places, and then tells the time until it is sent a note.
+/// The producer fills the places, and then ticks until it is sent a note.
 fn produce<R: Wait + Now>(rt: &R, mut side: Side<'_, '_>, places: &Places) -> Result<(), Fault> {
     let filled = fill(rt, &mut side, places);
     let (watch, proc) = (side.watch, side.takes.into_proc());
@@ -75,7 +75,7 @@ fn run_both<R: Threads + Wait + Now + Sync>(
     })
 }
 
-/// What both sides call: the places that are free, the items, and the time.
+/// What both sides use: the free places, the items, and the time.
 #[derive(Drop)]
 struct Shared {
     free: Pool,

@@ -1,5 +1,5 @@
-//! A desk with deadlines. One client gives up, and another is cancelled. The first one asks again
-//! when the desk is free, and is served.
+//! A desk with deadlines. One client gives up, and another is cancelled. The first asks again when
+//! the desk is free, and is served.
 #![tactic(auto)]
 
 use plan9::{
@@ -49,7 +49,7 @@ fn serve<R: Threads + Wait + Now + Sync>(
     })
 }
 
-/// The desk beside a process that tells the time.
+/// The desk beside a process that ticks.
 fn run_all<'k, R: Threads + Wait + Now + Sync>(
     rt: &R,
     mut ticker: Ticker<'_, 'k>,
@@ -82,7 +82,7 @@ fn take_desk<'s, 't, 'k, R: Wait>(
     Ok(Front { desk, hasty, timer })
 }
 
-/// Three processes at the desk, and one that tells the time.
+/// Three processes at the desk, and one that ticks.
 fn seat<R: Threads + Wait + Now + Sync>(
     rt: &R,
     pool: &mut Pool,

@@ -1,8 +1,8 @@
 //! A device driver. It shows `sleep`, `wakeup` and notes, and a look at who waits where.
 //!
 //! A user wants five blocks of a device, and a driver copies them. The device interrupts when a
-//! block is ready. An interrupt may not wait: it calls `wakeup`, which never does. The driver may:
-//! it sleeps until there is a block. Only three blocks come. The user sees by a look that the
+//! block is ready. An interrupt may not wait: it calls `wakeup`, which never does. The driver may
+//! wait: it sleeps until there is a block. Only three blocks come. The user sees by a look that the
 //! driver sleeps, and posts a note to it, which ends its sleep and with it the transfer.
 #![tactic(auto)]
 
@@ -20,7 +20,7 @@ use std::thread::{self, Threads};
 /// How many blocks the user wants.
 const WANTED: u64 = 5;
 
-/// How many the device makes.
+/// How many blocks the device makes.
 const MADE: u64 = 3;
 
 /// The processes by their pids, and the Rendez by their numbers.
@@ -28,7 +28,7 @@ const PROCS: [&str; 3] = ["user", "device", "driver"];
 
 const RENDEZ: [&str; 2] = ["ready", "copied"];
 
-/// A number that rises, and the Rendez where others sleep until it has.
+/// A number that rises, and the Rendez where processes sleep until it has risen.
 #[derive(Drop)]
 struct Counter {
     count: AtomicU64,
@@ -43,19 +43,19 @@ impl Counter {
         }
     }
 
-    /// Makes the condition true, and then wakes whoever sleeps: never the other way round. There is
-    /// no `Wait` among its parameters, so it can't wait, and an interrupt may call it.
+    /// Makes the condition true, and then wakes the sleeper: never the other way round. There is no
+    /// `Wait` among its parameters, so it can't wait, and an interrupt may call it.
     fn rise(&self, proc: &mut Proc<'_>, count: u64) -> Result<(), Fault> {
         self.count.store(count, SeqCst);
         proc.wakeup(self.risen, count)?;
         Ok(())
     }
 
-    /// Waits until the number is at least this one.
+    /// Waits until the number is at least `count`.
     ///
-    /// A sleep ends when the Rendez was woken with more than what was seen, also where that was
-    /// between the look and the sleep: no wakeup is lost. One that is late may end a later sleep,
-    /// so the number is looked at again. A note ends a sleep too, which answers `Interrupted`.
+    /// A sleep ends when the Rendez was woken with more than `seen`, also where that was between
+    /// the look and the sleep: no wakeup is lost. A late wakeup may end a later sleep, so the
+    /// number is looked at again. A note ends a sleep too, which answers `Interrupted`.
     fn wait_for<R: Wait>(&self, rt: &R, proc: &mut Proc<'_>, count: u64) -> Result<(), Fault> {
         for _ in rt.forever() {
             let seen = self.count.load(SeqCst);
@@ -84,7 +84,7 @@ fn make_blocks(device: &mut Proc<'_>, transfer: &Transfer) -> Result<(), Fault> 
 }
 
 /// The driver: it waits for each block, copies it and says so, until all are copied or a note
-/// comes. It answers how many were copied.
+/// comes. It returns how many were copied.
 fn copy_blocks<R: Wait>(rt: &R, driver: &mut Proc<'_>, transfer: &Transfer) -> Result<u64, Fault> {
     for block in 0..WANTED {
         match transfer.ready.wait_for(rt, driver, block + 1) {
@@ -109,7 +109,7 @@ fn look_at_sleeper<R: Wait>(rt: &R, kernel: &Kernel, sleeper: Pid) -> [RendezSta
     seen
 }
 
-/// Says who waits where, by the names that they have here.
+/// Prints who waits where, by the names above.
 fn tell(rt: &impl Print, seen: &[RendezStatus]) -> io::Result<()> {
     for (status, rendez) in seen.iter().zip(RENDEZ) {
         let level = status.level;
@@ -125,7 +125,7 @@ fn tell(rt: &impl Print, seen: &[RendezStatus]) -> io::Result<()> {
     Ok(())
 }
 
-/// Waits until all that was made is copied and the driver sleeps, and says what is seen then.
+/// Waits until all that was made is copied and the driver sleeps, and prints what is seen then.
 fn watch_driver<R: Wait + Print>(
     rt: &R,
     kernel: &Kernel,
@@ -160,7 +160,7 @@ struct Procs<'k> {
     driver: Proc<'k>,
 }
 
-/// The driver, which waits for the device, has a thread of its own; where none can be started
+/// The driver, which waits for the device, has a thread of its own; where no thread can be started,
 /// nothing is begun. The device and the user take turns on this one.
 fn run_all<R: Threads + Wait + Print + Sync>(
     rt: &R,

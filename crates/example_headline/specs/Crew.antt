@@ -45,7 +45,7 @@ pub record HasGot (read : ReadSide) (got : List (List ℕ)) : Type 0 where
   pub just : HasReadJust read parts
   pub bytes : map (λ part. part.bytes) (reverse parts) ≡ got
 
--- the newest that the end has seen is that nothing more comes, and nothing is left of a write
+-- the newest entry that the end has seen is that nothing more comes, and nothing is left of a write
 pub record HasSeenEnd (read : ReadSide) : Type 0 where
   pub past : List Entry
   pub newest : read.account.seen ≡ End ∷ past
@@ -58,7 +58,7 @@ pub record KeepsAll (reader : Reader) : Type 0 where
   pub kernel : OwnsRow reader.proc.words reader.end.row
   pub woken : OfMine 0 (HaveWoken reader.proc.process.trace reader.end.row) reader.end.account
 
--- a read of it was refused for this
+-- a read of the reader was refused with this fault
 abbrev pub WasStopped : Fault → Reader → Type 0
 WasStopped why reader =
     OfMine 0 (λ mine. TellsWhyStopped why mine reader.proc.process.trace) reader.end.account
@@ -67,12 +67,12 @@ WasStopped why reader =
 abbrev pub IsQuiet : Reader → Type 0
 IsQuiet reader = OfMine 0 (λ mine. ¬ HasHang mine) reader.end.account
 
--- the reader came to the end, and has not hung up; or it stopped for this, and then hung up
+-- the reader came to the end, and has not hung up; or it stopped with this fault, and then hung up
 abbrev pub EndsFor : Option Fault → Reader → Type 0
 EndsFor None reader = HasSeenEnd reader.end × IsQuiet reader
 EndsFor (Some why) reader = OfMine 0 HasHungUp reader.end.account × WasStopped why reader
 
--- this holds of a reader of the pipe's kernel, whose reads stop at the end of a write
+-- this holds of the reader if it is of the pipe's kernel and its reads stop at the end of a write
 abbrev pub IfItsReader : (Reader → Type 0) → Reader → Type 0
 IfItsReader Holds reader =
     reader.end.row.mode ≡ Message → OwnsRow reader.proc.words reader.end.row → Holds reader
@@ -85,7 +85,7 @@ pub record IsClearReader (reader : Reader) : Type 0 where
 pub record SeesEnd (reader : Reader) : Type 0 where
   pub seen : IfItsReader (EndsFor None) reader
 
--- a read of it was refused for this, and it has not hung up
+-- a read of the reader was refused with this fault, and it has not hung up
 pub record StopsFor (why : Fault) (reader : Reader) : Type 0 where
   pub told : IfItsReader (λ reader. IsQuiet reader × WasStopped why reader) reader
 
@@ -93,12 +93,12 @@ pub record StopsFor (why : Fault) (reader : Reader) : Type 0 where
 pub record HasStopped (reader : Reader) : Type 0 where
   pub ends : IfItsReader (EndsFor reader.stopped) reader
 
--- so it is of a reader that began so
+-- this holds of a reader that began clear
 abbrev pub StopsFrom : Reader → Reader → Type 0
 StopsFrom start reader = IsClearReader start → HasStopped reader
 
--- the writer counts just what its end has written, the first so many of its messages; it is of the
--- kernel that has the Rendez of the pipe, and has made the wakeups that its calls owe
+-- the writer counts just what its end has written, the first `accepted` of its messages; it is of
+-- the kernel that has the Rendez of the pipe, and has made the wakeups that its calls owe
 pub record CountsAll (writer : Writer) : Type 0 where
   pub just : HasWrittenJust writer.end (take writer.accepted writer.messages.items)
   pub within : writer.accepted ≤ length writer.messages.items
@@ -106,7 +106,7 @@ pub record CountsAll (writer : Writer) : Type 0 where
   pub woken : OfMine (writer.end.writer + 1) (HaveWoken writer.proc.process.trace writer.end.row)
       writer.end.account
 
--- the write of the next of its messages was refused for this
+-- the write of the next of its messages was refused with this fault
 pub record WasRefused (why : Fault) (writer : Writer) : Type 0 where
   pub left : writer.accepted < length writer.messages.items
   pub told : OfMine (writer.end.writer + 1)
@@ -126,23 +126,23 @@ pub record HasEnded (writer : Writer) : Type 0 where
       → OwnsRow writer.proc.words writer.end.row → WasRefused why writer
   pub last : OfMine (writer.end.writer + 1) HangsUpLast writer.end.account
 
--- so it is of a writer that began so
+-- this holds of a writer that began clear
 abbrev pub EndsFrom : Writer → Writer → Type 0
 EndsFrom start writer = IsClearWriter start → HasEnded writer
 
--- the reader has read on: its end stays where it is, and it keeps all if it did
+-- the reader has read on: its end stays at its direction, and it keeps all if it did before
 pub record HasReadOn (old new : Reader) : Type 0 where
   pub end : IsSameReadEnd old.end new.end
   pub keeps : KeepsAll old → KeepsAll new
 
--- the writer has written on: its end stays where it is, its messages are the same, and it counts
--- all if it did
+-- the writer has written on: its end stays at its direction, its messages are the same, and it
+-- counts all if it did before
 pub record HasWrittenOn (old new : Writer) : Type 0 where
   pub end : IsSameWriteEnd old.end new.end
   pub messages : new.messages ≡ old.messages
   pub counts : CountsAll old → CountsAll new
 
--- it has ended if it had
+-- the writer has ended if it had before
 abbrev pub StaysEnded : Writer → Writer → Type 0
 StaysEnded old new = HasEnded old → HasEnded new
 
@@ -155,7 +155,7 @@ pub record AreEnds (read : ReadSide) (writes : List WriteSide) : Type 0 where
 abbrev pub HasMadeNone : ℕ → Account Entry → Type 0
 HasMadeNone number account = OfMine number (λ mine. mine ≡ []) account
 
--- on which nothing was called, and whose reads stop at the end of a write
+-- nothing was called on these ends, and reads stop at the end of a write
 pub record IsFresh (read : ReadSide) (writes : List WriteSide) : Type 0 where
   pub ends : AreEnds read writes
   pub mode : read.row.mode ≡ Message
@@ -169,7 +169,7 @@ ends_of writers = map (λ writer. writer.end) writers
 abbrev pub messages_of : List Writer → List (List (List ℕ))
 messages_of writers = map (λ writer. writer.messages.items) writers
 
--- there is room for the ends of so many writers, and for what is told of each
+-- there is room for the ends of this many writers, and for the report of each
 pub record HasRoom (writers : ℕ) (room : Room) : Type 0 where
   pub no_ends : room.ends.items ≡ []
   pub none_told : room.told.items ≡ []
@@ -184,7 +184,7 @@ pub record IsReady (crew : Crew) : Type 0 where
   pub counts : AllByRecursion CountsAll crew.writers.items
   pub room : HasRoom (length crew.writers.items) crew.room
 
--- nobody of it has asked for anything yet
+-- no reader or writer of the crew has asked for anything yet
 pub record IsClearCrew (crew : Crew) : Type 0 where
   pub reader : IsClearReader crew.reader
   pub writers : AllByRecursion IsClearWriter crew.writers.items
@@ -199,7 +199,7 @@ pub record HasWorked (crew : Crew) : Type 0 where
   pub stopped : HasStopped crew.reader
   pub ended : AllByRecursion HasEnded crew.writers.items
 
--- what is told of a writer
+-- the report of a writer
 abbrev pub written_of : Writer → Written
 written_of writer =
     record {
@@ -208,14 +208,14 @@ written_of writer =
       refused = writer.refused;
     }
 
--- this is told of the crew
+-- this is the report of the crew
 pub record IsToldOf (crew : Crew) (told : Told) : Type 0 where
   pub writers : told.writers.items ≡ map written_of crew.writers.items
   pub got : told.got.items ≡ crew.reader.got.items
   pub stopped : told.stopped ≡ crew.reader.stopped
 
--- Why no crew was mustered of so many writers: there are other than so many lists of messages;
--- there was no memory; or the roster has not so many pids left.
+-- Why no crew of this many writers was mustered: the lists of messages are more or fewer than the
+-- writers; there was no memory; or the roster has too few pids left.
 abbrev pub WhyNotMustered : Unused → ℕ → ℕ → Fault → Type 0
 WhyNotMustered roster writers lists fault.BadSize = lists ≢ writers
 WhyNotMustered roster writers lists fault.Memory = ⊤

@@ -1,4 +1,4 @@
--- The headline, of what a run gives back.
+-- The headline, said of what a run gives back.
 use Rattle.std.specs.Prelude.{◌≡◌, ◌+◌, ◌++◌, ◌<◌, ◌≤◌, ℕ, ⊤, List, [], ◌∷◌, map, length, reverse}
 use Rattle.std.specs.Prelude.{Option, Some, None, true, take, slice_index_or}
 use Rattle.std.specs.List.{AllByRecursion}
@@ -31,18 +31,18 @@ use Rattle.example_headline.specs.Wakes.{Wakes, HasWoken}
 
 -- ---- what was read and is held
 
--- what was accepted of a writer, the oldest first
+-- what was accepted from a writer, the oldest first
 abbrev pub accepted_of : Written → List (List ℕ)
 accepted_of written = take written.accepted written.messages.items
 
--- the pieces of each writer, from this one on, have just the bytes that were accepted of it
+-- the pieces of each writer, from this one on, have just the bytes that were accepted from it
 abbrev pub AreTheirs : ℕ → List Written → List Part → Type 0
 AreTheirs writer [] pieces = ⊤
 AreTheirs writer (written ∷ others) pieces =
     (bytes_by writer pieces ≡ accepted_of written) × AreTheirs (writer + 1) others pieces
 
--- what was accepted of a writer is the first so many of its messages: all of them, if no write was
--- refused
+-- what was accepted from a writer is the first of its messages, `accepted` of them: all, if no
+-- write was refused
 pub record AreFirst (written : Written) : Type 0 where
   pub within : written.accepted ≤ length written.messages.items
   pub all : written.refused ≡ None → written.accepted ≡ length written.messages.items
@@ -53,14 +53,14 @@ pub record HoldsNothing (held : Held) : Type 0 where
   pub writes : held.writes.items ≡ []
 
 -- What the reader got, part by part, continued by what is held, is just the accepted writes, each
--- whole, contiguous and once, in the order in which they were accepted; of each writer these are
--- just what was accepted of it, in its order; and that is the first of the messages that it was
--- given. Where the reader came to the end, nothing is held: all that was accepted was read.
+-- whole, contiguous and once, in the order in which they were accepted. The accepted writes of each
+-- writer are just what was accepted from it, in its order, which is the first of the messages that
+-- it was given. Where the reader came to the end, nothing is held: all that was accepted was read.
 pub record IsWholeAndOnce (given : List (List (List ℕ))) (outcome : Outcome) : Type 0 where
   pub accepted : List Write
   pub parts : List Part
   pub rest : Option Part
-  -- how many writes were taken out, as their parts say
+  -- how many writes were taken out, by their parts
   pub place : ℕ
   pub got : map (λ part. part.bytes) (reverse parts) ≡ outcome.got.items
   pub begun : rest_bytes rest ≡ outcome.held.rest
@@ -78,19 +78,19 @@ AllAreAccepted given outcome =
     AllByRecursion (λ written. written.refused ≡ None) outcome.writers.items
     → map accepted_of outcome.writers.items ≡ given
 
--- ---- what the history of the direction tells
+-- ---- what the history of the direction says
 
--- The write of the next message of a writer was refused for this: so its own entries and the steps
--- of its process tell.
+-- The write of the next message of a writer was refused with this fault, by its own entries and the
+-- steps of its process.
 pub record WasRefusedFor (why : Fault) (writer : ℕ) (written : Written) (mine : List Entry)
     (process : Process) : Type 0 where
   pub left : written.accepted < length written.messages.items
   pub told : TellsWhyRefused why writer
       (slice_index_or written.messages.items written.accepted []) mine process.trace
 
--- A writer: its entries are that just these of its messages were accepted; where it tells a
--- refusal, its write was refused just so; where it hung up, it did so after its last write; and
--- each wakeup that its calls owe has returned.
+-- A writer: its entries are that just these of its messages were accepted; where it reports a
+-- refusal, its write was refused with that fault; where it hung up, it did so after its last write;
+-- and each wakeup that its calls owe has returned.
 pub record IsWriterOf (history : List Entry) (row : Row) (writer : ℕ) (written : Written)
     (process : Process) : Type 0 where
   pub accepted : accepted_in (entries_by seat_of (writer + 1) history) ≡ accepted_of written
@@ -108,8 +108,9 @@ AreWritersOf history row writer (written ∷ others) (process ∷ processes) =
     × AreWritersOf history row (writer + 1) others processes
 AreWritersOf history row writer writtens processes = ⊥
 
--- The reader came to the end of a direction that others hung up; or it tells why it stopped, a read
--- was refused just so, and after that it hung up. Each wakeup that its calls owe has returned.
+-- The reader came to the end of a direction that others hung up; or it reports why it stopped: a
+-- read was refused with that fault, and after that it hung up. Each wakeup that its calls owe has
+-- returned.
 pub record IsReaderOf (history : List Entry) (row : Row) (outcome : Outcome) (process : Process)
     : Type 0 where
   pub ended : outcome.stopped ≡ None → outcome.held.hung ≡ true
@@ -120,19 +121,19 @@ pub record IsReaderOf (history : List Entry) (row : Row) (outcome : Outcome) (pr
       → HasHungUp (entries_by seat_of 0 history)
   pub woken : AllByRecursion (Wakes (HasWoken process) row) (entries_by seat_of 0 history)
 
--- The one history of the direction, newest first, of which all calls of the run are the entries.
+-- The one history of the direction, newest first, whose entries are all calls of the run.
 pub record HasHistory (key : Key) (first : ℕ) (outcome : Outcome) : Type 0 where
   pub history : List Entry
   pub legal : IsHistory (queue_meaning key.first) (opening_state key.limit) (key.writers + 1)
       history
-  -- no write is accepted after a hangup, and none is told of a hangup before one
+  -- no write is accepted after a hangup, and no write is refused as hungup before one
   pub accepted : NoWriteAfterHangup history
   pub hungup : EachHungupIsAfterHangup history
   pub hung : outcome.held.hung ≡ (left_state key history).hung
-  -- who was told to wait is woken above the number that it was told
+  -- a call that had to wait is woken above the number with which it had to wait
   pub reader_above : AreReadersWokenAbove history
   pub writers_above : AreWritersWokenAbove history
-  -- who made it: the Rendez of the direction from this one on, the reader, and each writer
+  -- its makers: the Rendez of the direction from this one on, the reader, and each writer
   pub row : Row
   pub row_first : row.first ≡ first
   pub row_writers : row.writers ≡ length outcome.writers.items
@@ -141,14 +142,14 @@ pub record HasHistory (key : Key) (first : ℕ) (outcome : Outcome) : Type 0 whe
   pub is_reader : IsReaderOf history row outcome reader
   pub are_writers : AreWritersOf history row 0 outcome.writers.items writers
 
--- The headline, of a run on a direction of this queue, whose Rendez are those from this one on.
+-- The headline, for a run on a direction of this queue, whose Rendez are those from this one on.
 pub record KeepsHeadline (key : Key) (first : ℕ) (given : List (List (List ℕ)))
     (outcome : Outcome) : Type 0 where
   pub whole : IsWholeAndOnce given outcome
   pub complete : AllAreAccepted given outcome
   pub made : HasHistory key first outcome
 
--- What is told of a run where no memory was left to take its ends back: what a crew tells that has
+-- The report of a run that had no memory left to take its ends back: the report of a crew that has
 -- all ends of a direction of this queue, and has worked with these messages.
 pub record IsToldOfWork (key : Key) (first : ℕ) (given : List (List (List ℕ))) (told : Told)
     : Type 0 where

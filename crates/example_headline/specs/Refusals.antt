@@ -1,5 +1,5 @@
--- Why a write was refused, and why a reader stopped: what the entries of the seat that made the
--- call, and the steps of its process, tell of it.
+-- Why a write was refused, and why a reader stopped, by the entries of the seat that made the call
+-- and the steps of its process.
 use Rattle.std.specs.Prelude.{◌≡◌, ◌≢◌, ◌⊎◌, ◌<◌, ⊤, ℕ, List, [], ◌∷◌, length}
 use Rattle.std.specs.Prelude.{Option, Some, None}
 use Rattle.sync_base.specs.declared.fault.Fault.{Fault}
@@ -15,14 +15,14 @@ use Rattle.block_queue.specs.declared.entry.Entry.TheVariants.{Stood, Full, Hung
 use Rattle.block_queue.specs.declared.entry.Entry.TheVariants.{Block, NotYet, Hung}
 use Rattle.pipe_dev.specs.WriteCalls.{HasHang}
 
--- the newest of a seat's entries but for its hangups: what its last put or take was told
+-- the newest of a seat's entries other than its hangups: the answer to its last put or take
 abbrev pub last_told : List Entry → Option Entry
 last_told [] = None
 last_told (Hung seat ∷ past) = last_told past
 last_told (entry ∷ past) = Some entry
 
--- what it was told last was no refusal, no wait and no end: its write stands, or it took a write
--- out; or it has asked for nothing yet
+-- its last answer was no refusal, no wait and no end: its write stands, or it took a write out; or
+-- it has asked for nothing yet
 abbrev pub WasGiven : Option Entry → Type 0
 WasGiven None = ⊤
 WasGiven (Some (Stood writer number)) = ⊤
@@ -45,24 +45,24 @@ pub record HasHungUp (mine : List Entry) : Type 0 where
   pub hung : HasHang mine
   pub last : HangsUpLast mine
 
--- one of these steps was answered so
+-- one of these steps got this answer
 abbrev pub WasAnswered : Answer → List core.Entry → Type 0
 WasAnswered told [] = ⊥
 WasAnswered told (step ∷ past) = (step.answer ≡ told) ⊎ WasAnswered told past
 
--- it was told last that there is no room for this block
+-- its last answer was that there is no room for this block
 abbrev pub WaitsForRoom : ℕ → List ℕ → List Entry → Type 0
 WaitsForRoom writer block mine =
     (number : ℕ) × (last_told mine ≡ Some (Full writer block number))
 
--- it was told last that nothing is there to read
+-- its last answer was that nothing is there to read
 abbrev pub WaitsForWrite : List Entry → Type 0
 WaitsForWrite mine = (number : ℕ) × (last_told mine ≡ Some (NotYet number))
 
 -- Why a write of this block by this writer was refused. It was too big; there was no memory, before
 -- the queue was asked: what the writer asked last was given; the direction was hung up; the last
 -- number was given; or it waited for room, and its sleep took notes or found another process asleep
--- there. No other fault is told.
+-- there. It reports no other fault.
 abbrev pub TellsWhyRefused : Fault → ℕ → List ℕ → List Entry → List core.Entry → Type 0
 TellsWhyRefused fault.TooBig writer block mine steps = ATOMIC_SIZE < length block
 TellsWhyRefused fault.Memory writer block mine steps = WasGiven (last_told mine)
@@ -77,8 +77,8 @@ TellsWhyRefused fault.DoubleSleep writer block mine steps =
 TellsWhyRefused other writer block mine steps = ⊥
 
 -- Why a reader stopped before the end: there was no memory, before the queue was asked; or it
--- waited for a write, and its sleep took notes or found another process asleep there. No other
--- fault is told.
+-- waited for a write, and its sleep took notes or found another process asleep there. It reports no
+-- other fault.
 abbrev pub TellsWhyStopped : Fault → List Entry → List core.Entry → Type 0
 TellsWhyStopped fault.Memory mine steps = WasGiven (last_told mine)
 TellsWhyStopped (fault.Interrupted notes) mine steps =
@@ -87,7 +87,7 @@ TellsWhyStopped fault.DoubleSleep mine steps =
     WaitsForWrite mine × WasAnswered answer.DoubleSleep steps
 TellsWhyStopped other mine steps = ⊥
 
--- after each write that was refused as hungup stands a hangup
+-- a hangup comes before each write that was refused as hungup
 abbrev pub EachHungupIsAfterHangup : List Entry → Type 0
 EachHungupIsAfterHangup [] = ⊤
 EachHungupIsAfterHangup (Hungup writer block ∷ past) =

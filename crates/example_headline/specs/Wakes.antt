@@ -1,4 +1,5 @@
--- Whom the calls of a direction wake, and what becomes of whoever fell asleep before.
+-- Which sleepers the calls of a direction wake, and what becomes of processes that fell asleep
+-- before.
 use Rattle.std.specs.Prelude.{◌<◌, ⊤, ℕ, List}
 use Rattle.histories.specs.History.{IsPast}
 use Rattle.sync_base.specs.declared.ids.RendezId.{RendezId}
@@ -18,8 +19,9 @@ abbrev pub EachWriter : (RendezId → ℕ → Type 0) → Row → ℕ → Type 0
 EachWriter Holds row level =
     (writer : ℕ) → writer < row.writers → Holds (writer_rendez row writer) level
 
--- Whom an entry wakes, after pipe(2): a write that is accepted the reader, with its number; a read
--- that takes a write out each writer, with the number of that write; and a hangup everybody.
+-- Which sleepers an entry wakes, after pipe(2): a write that is accepted wakes the reader, with its
+-- number; a read that takes a write out wakes each writer, with the number of that write; and a
+-- hangup wakes everybody.
 abbrev pub Wakes : (RendezId → ℕ → Type 0) → Row → Entry → Type 0
 Wakes Holds row (Taken writer block number) = Holds (reader_rendez row) number
 Wakes Holds row (Block writer block number) = EachWriter Holds row number
@@ -32,7 +34,7 @@ abbrev pub HasReturnedIn : List core.Entry → RendezId → ℕ → Type 0
 HasReturnedIn steps rendez level = HasReturned (history_of steps) rendez.0 level
 
 -- A moment of the threads of a kernel: the processes had made this run of steps by then. The steps
--- of this one among them were the first of those that it came to make.
+-- of this process among them were the first of those that it came to make.
 pub record Moment (process : Process) : Type 0 where
   pub procs : ℕ
   pub rendez : ℕ
@@ -41,7 +43,7 @@ pub record Moment (process : Process) : Type 0 where
   pub earlier : IsPast (kept (own process.pid run)) process.trace
 
 -- This process has woken the Rendez with this level, and its wakeup has returned. At each moment
--- since then, whoever fell asleep there below the level is posted no more.
+-- since then, no process that fell asleep there below the level is posted any more.
 pub record HasWoken (process : Process) (rendez : RendezId) (level : ℕ) : Type 0 where
   pub returned : HasReturnedIn process.trace rendez level
   pub released : (moment : Moment process)

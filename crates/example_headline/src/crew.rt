@@ -1,4 +1,4 @@
-//! A reader and writers who have all ends of one direction.
+//! A reader and writers that have all ends of one direction.
 ghost use Rattle.std.specs.Prelude.{◌≡◌, IfOk, IfErr, length, map, vec_items};
 ghost use Rattle.std.specs.List.{AllZip};
 ghost use Rattle.pipe_dev.specs.Rendezes.{OwnsRow};
@@ -17,8 +17,8 @@ use std::sync::Wait;
 use std::thread::{Threads, join_mut};
 use sync_base::{Fault, Flags, Piece};
 
-/// A reader and writers, and room for when they are taken apart. A crew can't be dropped: whoever
-/// has one settles it.
+/// A reader and writers, and room for when they are taken apart. A crew can't be dropped: its owner
+/// has to settle it.
 pub struct Crew<'p> {
     pub(crate) reader: Reader<'p>,
     pub(crate) writers: Vec<Writer<'p>>,
@@ -27,7 +27,7 @@ pub struct Crew<'p> {
 
 /// Gives each end of a new direction to a process, and each writer its messages. Refuses as
 /// `BadSize` where there are not as many lists of messages as writers, as `Memory`, and as `NoProc`
-/// where the roster has not as many pids left.
+/// where the roster has too few pids left.
 pub fn muster<'p>(
     alloc: Global,
     roster: Roster<'p>,
@@ -80,8 +80,8 @@ pub fn muster<'p>(
     })
 }
 
-/// Writers and reader at once. The ends are lent to the threads, so what each did is known after
-/// it.
+/// Writers and reader at once. The ends are lent to the threads, so what each did is known
+/// afterwards.
 pub fn work<'p, R: Threads + Wait + Sync>(rt: &R, alloc: Global, crew: Crew<'p>) -> Crew<'p>
     ensures reader { HasReadOn crew.entry.reader result.reader }
     ensures stopped { StopsFrom crew.entry.reader result.reader }

@@ -3,8 +3,8 @@
 //! Up to three writers and a reader, each on a thread of its own, have the ends of one direction of
 //! a pipe. They write and read, the direction is hung up, and all ends are given back. The one
 //! contract is that of `run`: for each writer, what was read and what is still held is what was
-//! accepted of it, whole, in its order, contiguous and once.
-//! Read `writer`, `writing`, `reader`, `crew`; `settling`; and then `run`.
+//! accepted from it, whole, in its order, contiguous and once. Read `writer`, `writing`, `reader`,
+//! `crew`; `settling`; and then `run`.
 #![tactic(auto)]
 
 mod crew;
@@ -27,7 +27,7 @@ const MESSAGES: &[&[&[u8]]] = &[
     &[b"a frame of a window", b"and its size"],
 ];
 
-/// A copy of the messages of so many, for the writers to have.
+/// A copy of the messages of this many writers, for the writers to have.
 fn copied(alloc: Global, writers: usize) -> Result<Vec<Vec<Piece>>, Fault> {
     let mut all = Vec::new(alloc);
     for messages in MESSAGES.iter().take(writers) {
@@ -40,7 +40,7 @@ fn copied(alloc: Global, writers: usize) -> Result<Vec<Vec<Piece>>, Fault> {
     Ok(all)
 }
 
-/// How many bytes these are.
+/// How many bytes these pieces have.
 fn count(pieces: &[Piece]) -> u64 {
     let mut bytes = 0u64;
     for piece in pieces {
@@ -49,7 +49,7 @@ fn count(pieces: &[Piece]) -> u64 {
     bytes
 }
 
-/// Tells why somebody stopped early, if it did.
+/// Prints why a writer or the reader stopped early, if it did.
 fn tell_why(rt: &HostRuntime, who: &str, why: Option<Fault>) -> io::Result<()> {
     match why {
         Some(fault) => println!(rt; "{who} stopped: {fault}"),
@@ -57,7 +57,7 @@ fn tell_why(rt: &HostRuntime, who: &str, why: Option<Fault>) -> io::Result<()> {
     }
 }
 
-/// Tells what each writer did, and why the reader stopped early, if it did.
+/// Prints what each writer did, and why the reader stopped early, if it did.
 fn tell_ends(rt: &HostRuntime, writers: &[Written], stopped: Option<Fault>) -> io::Result<()> {
     for written in writers {
         println!(rt; "{} messages of a writer were accepted", written.accepted)?;
@@ -66,7 +66,7 @@ fn tell_ends(rt: &HostRuntime, writers: &[Written], stopped: Option<Fault>) -> i
     tell_why(rt, "the reader", stopped)
 }
 
-/// Tells what came of a run.
+/// Prints the result of a run.
 fn tell(rt: &HostRuntime, told: Result<Ending, Fault>) -> io::Result<()> {
     match told {
         Ok(Ending::Settled(outcome)) => {

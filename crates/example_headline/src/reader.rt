@@ -46,7 +46,7 @@ impl<'p> Reader<'p> {
         }
     }
 
-    /// Hangs the direction up, since a read was refused for this.
+    /// Hangs the direction up, since a read was refused for this reason.
     fn hang_up_for(&mut self, why: Fault)
         ensures on { HasReadOn self.old self.new }
         ensures stopped { StopsFor why self.old → HasStopped self.new }
@@ -55,7 +55,7 @@ impl<'p> Reader<'p> {
         self.stopped = Some(why);
     }
 
-    /// Reads to the end. Where it can read no more it hangs up, so that no writer waits for ever.
+    /// Reads to the end. Where it can't read on it hangs up, so that no writer waits for ever.
     pub fn read_all<R: Wait>(&mut self, rt: &R, alloc: Global)
         ensures on { HasReadOn self.old self.new }
         ensures stopped { StopsFrom self.old self.new }

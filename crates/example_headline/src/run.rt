@@ -19,8 +19,8 @@ use sync_base::{Fault, Piece};
 /// then a hangup and a finish.
 ///
 /// Refuses as `BadSize` a limit or a number of writers that no pipe has, and else as `Memory`, both
-/// before it has a crew. A crew can't be dropped, nor can its ending: once there is one, the run is
-/// answered.
+/// before it has a crew. Neither a crew nor its ending can be dropped: once there is a crew, the
+/// run is answered.
 pub fn run<R: Threads + Wait + Sync>(
     rt: &R,
     alloc: Global,

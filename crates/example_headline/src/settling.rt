@@ -1,4 +1,4 @@
-//! How all ends are given back, and what is told of it.
+//! How all ends are given back, and what is reported then.
 ghost use Rattle.example_headline.specs.Crew.{HasWorked, messages_of};
 ghost use Rattle.block_queue.specs.Seats.{key_of};
 ghost use Rattle.example_headline.specs.Headline.{IsEnding};
@@ -10,8 +10,8 @@ use pipe_dev::{Held, WriteEnd, finish};
 use std::alloc::Global;
 use sync_base::{Fault, Piece};
 
-/// The messages of a writer, how many of them were accepted, from the first on, and why it wrote no
-/// more, where a write was refused.
+/// The messages of a writer, how many of them were accepted, from the first on, and why it stopped,
+/// where a write was refused.
 #[derive(Drop)]
 pub struct Written {
     pub messages: Vec<Piece>,
@@ -19,8 +19,8 @@ pub struct Written {
     pub refused: Option<Fault>,
 }
 
-/// What came of a run: what was accepted of each writer, what the reader got, part by part, why it
-/// stopped where it did not come to the end, and what the direction still holds.
+/// The result of a run: what was accepted from each writer, what the reader got, part by part, why
+/// it stopped where it did not come to the end, and what the direction still holds.
 #[derive(Drop)]
 pub struct Outcome {
     pub writers: Vec<Written>,
@@ -29,7 +29,7 @@ pub struct Outcome {
     pub held: Held,
 }
 
-/// What is told of a run where no memory was left to take its ends back: all but what the direction
+/// The report of a run that had no memory left to take its ends back: all but what the direction
 /// still holds.
 #[derive(Drop)]
 pub struct Told {
@@ -38,13 +38,13 @@ pub struct Told {
     pub stopped: Option<Fault>,
 }
 
-/// How a run ended. It can't be dropped: whoever has it answers it.
+/// How a run ended. It can't be dropped: its owner has to answer it.
 pub enum Ending {
     Settled(Outcome),
     Unsettled(Told),
 }
 
-/// Room for the ends of a crew, and for what is told of its writers. It is taken before they run.
+/// Room for the ends of a crew, and for the reports of its writers. It is taken before they run.
 #[derive(Drop)]
 pub struct Room<'p> {
     ends: Vec<WriteEnd<'p>>,
@@ -56,7 +56,7 @@ impl<'p> Room<'p> {
     ghost use Rattle.sync_base.specs.declared.fault.Fault.TheVariants.{Memory};
     ghost use Rattle.example_headline.specs.Crew.{HasRoom};
 
-    /// Room for so many writers. Refuses as `Memory` alone.
+    /// Room for this many writers. Refuses as `Memory` alone.
     pub fn new(alloc: Global, writers: usize) -> Result<Room<'p>, Fault>
         ensures room { IfOk result (HasRoom writers) }
         ensures fault { IfErr result (λ fault. fault ≡ Memory) }

@@ -6,7 +6,7 @@ use std::sync::Wait;
 use sync_base::{Fault, Piece};
 
 /// A writer: its end and its process, its messages, how many of them were accepted, and why it
-/// wrote no more, where a write was refused.
+/// stopped, where a write was refused.
 #[derive(Drop)]
 pub struct Writer<'p> {
     pub(crate) end: WriteEnd<'p>,

@@ -1,6 +1,6 @@
-//! A rate limiter in real time: four requests at once, and then one a millisecond, whoever asks.
-//! A unit of a semaphore is leave for a request. One process pours units in as time goes by, and
-//! three clients take them, in the order of asking.
+//! A rate limiter in real time: four requests at once, and then one a millisecond, whoever asks. A
+//! unit of a semaphore is leave for a request. One process adds units as time goes by, and three
+//! clients take them, in the order of asking.
 #![tactic(auto)]
 
 use plan9::{
@@ -19,8 +19,8 @@ const REQUESTS: u64 = 20;
 
 const CLIENTS: u64 = 3;
 
-/// Pours a unit in for each millisecond while there are fewer than may be made at once, until it
-/// is sent a note. Of the time between two moments more than that is lost.
+/// Adds a unit for each millisecond while there are fewer than may be made at once, until it is
+/// sent a note. Where more milliseconds pass between two moments, the rest of them is lost.
 fn pour<R: Wait + Clock>(
     rt: &R,
     time: &RealTime,
@@ -48,7 +48,7 @@ fn ask<R: Wait>(rt: &R, client: &mut Holder<'_, '_>) -> Result<(), Fault> {
     Ok(())
 }
 
-/// All clients, each on a thread of its own. Says at which millisecond the last was done.
+/// All clients, each on a thread of its own. Returns at which millisecond the last was done.
 fn ask_all<R: Threads + Wait + Clock + Sync>(
     rt: &R,
     time: &RealTime,
@@ -61,7 +61,7 @@ fn ask_all<R: Threads + Wait + Clock + Sync>(
     Ok(time.now(rt))
 }
 
-/// The clients beside the process that pours.
+/// The clients beside the process that adds units.
 fn run_all<R: Threads + Wait + Clock + Sync>(
     rt: &R,
     main: &mut Proc<'_>,
@@ -79,7 +79,7 @@ fn run_all<R: Threads + Wait + Clock + Sync>(
     })
 }
 
-/// The clients, and one process more, are children of the first one.
+/// The clients, and one process more, are children of the first process.
 fn seat<R: Threads + Wait + Clock + Sync>(
     rt: &R,
     alloc: Global,

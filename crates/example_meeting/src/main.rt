@@ -1,5 +1,5 @@
 //! Clients meet a window system by tags: each asks for columns under a tag of its own, and is
-//! answered there. Nobody meets the last one. A note ends its wait, and it leaves with the note.
+//! answered there. Nobody meets the last client. A note ends its wait, and it leaves with the note.
 #![tactic(auto)]
 
 use plan9::{
@@ -9,13 +9,14 @@ use std::alloc::Global;
 use std::sync::Wait;
 use std::thread::{Threads, map_vec, scope, scope_env};
 
-/// The clients are the processes from 2 to this one.
+/// The clients are the processes from 2 to this number.
 const LAST: u64 = 5;
 
 /// How many columns each client was granted.
 type Granted = Vec<Result<u64, Fault>>;
 
-/// Asks for 20 columns a client, and says how many were granted: none to one that was sent away.
+/// Asks for 20 columns a client, and returns how many were granted: none to a client that was sent
+/// away.
 fn ask<R: Wait>(rt: &R, client: &mut Guest<'_, '_>) -> Result<u64, Fault> {
     let Pid(number) = client.pid();
     match client.rendezvous(rt, Tag(number), number.saturating_mul(20)) {
@@ -32,7 +33,7 @@ fn ask_all<R: Threads + Wait + Sync>(
     Ok(map_vec(rt, clients, &|mut client: Guest| ask(rt, &mut client))?)
 }
 
-/// Grants all clients but the last at most 70 columns, and sends that one away.
+/// Grants all clients but the last at most 70 columns, and sends the last away.
 fn serve<R: Wait>(rt: &R, windows: &mut Guest<'_, '_>) -> Result<(), Fault> {
     for client in 2..LAST {
         let wanted = windows.rendezvous(rt, Tag(client), 0)?;
@@ -72,7 +73,7 @@ fn join_all<'s, 'k, R: Wait>(
     Ok(clients)
 }
 
-/// The process 1 is the window system.
+/// Process 1 is the window system.
 fn open<R: Threads + Wait + Sync>(
     rt: &R,
     alloc: Global,

@@ -15,7 +15,7 @@ const MACHINES: u32 = 2;
 
 const PIECES: u64 = 100;
 
-/// Makes one piece after another, each on a machine that it hands back. Says how many.
+/// Makes one piece after another, each on a machine that it hands back. Returns how many.
 fn work<R: Wait>(rt: &R, mut worker: Holder<'_, '_>) -> Result<u64, Fault> {
     let mut made = 0;
     for piece in 1..=PIECES {

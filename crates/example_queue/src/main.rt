@@ -21,7 +21,7 @@ struct Party<'s, 'k> {
     jobs: Holder<'s, 'k>,
 }
 
-/// Puts jobs in. Who has a unit finds a place.
+/// Puts jobs in. A party with a unit finds a place.
 fn produce<R: Wait>(rt: &R, me: &mut Party<'_, '_>, queue: &ArrayQueue<Job>) -> Result<u64, Fault> {
     for number in 1..=JOBS {
         me.free.acquire(rt)?;
@@ -31,7 +31,7 @@ fn produce<R: Wait>(rt: &R, me: &mut Party<'_, '_>, queue: &ArrayQueue<Job>) -> 
     Ok(JOBS)
 }
 
-/// Takes jobs, and adds up their numbers. Who has a unit finds a job.
+/// Takes jobs, and adds up their numbers. A party with a unit finds a job.
 fn consume<R: Wait>(rt: &R, me: &mut Party<'_, '_>, queue: &ArrayQueue<Job>) -> Result<u64, Fault> {
     let mut sum = 0u64;
     for _ in 0..JOBS {
@@ -51,7 +51,8 @@ fn add_up(all: Result<Vec<Result<u64, Fault>>, AllocError>) -> Result<u64, Fault
     Ok(sum)
 }
 
-/// Each party on a thread of its own. Where none can be started for the producers nothing is begun.
+/// Each party on a thread of its own. Where no thread can be started for the producers, nothing is
+/// begun.
 fn run_all<R: Threads + Wait + Sync>(
     rt: &R,
     queue: &ArrayQueue<Job>,
@@ -71,7 +72,7 @@ fn run_all<R: Threads + Wait + Sync>(
     })
 }
 
-/// Two parties more.
+/// Two more parties.
 fn two<'s, 'k, R: Wait>(
     rt: &R,
     alloc: Global,

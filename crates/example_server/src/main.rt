@@ -1,7 +1,7 @@
 //! A server's request loop. It shows a pipe with many writers, and a pipe back to each of them.
 //!
 //! Four clients write requests into one pipe, and one server reads them in the order in which they
-//! come. It answers each on a pipe of its client's own. One client leaves in the middle, and the
+//! come. It answers each client on a pipe of its own. One client leaves in the middle, and the
 //! server goes on with the others. A hangup of the pipe of requests ends it.
 #![tactic(auto)]
 
@@ -61,7 +61,7 @@ fn leave<R: Wait>(
     Ok(None)
 }
 
-/// Asks for the squares of 1 to 5, and gives their sum; a client that leaves has none.
+/// Asks for the squares of 1 to 5, and returns their sum; a client that leaves has none.
 fn ask<R: Wait>(rt: &R, alloc: Global, me: &mut Client<'_>) -> Result<Option<u64>, Fault> {
     let Ok(number) = u8::try_from(me.asks.end.writer()) else {
         return Err(Fault::BadArg);
@@ -77,8 +77,8 @@ fn ask<R: Wait>(rt: &R, alloc: Global, me: &mut Client<'_>) -> Result<Option<u64
     Ok(Some(sum))
 }
 
-/// All clients, each on a thread, and then a hangup of the pipe of requests by a writer for this
-/// alone.
+/// All clients, each on a thread, and then a hangup of the pipe of requests, by a writer that does
+/// nothing else.
 fn ask_all<R: Threads + Wait + Sync>(
     rt: &R,
     alloc: Global,
@@ -90,7 +90,7 @@ fn ask_all<R: Threads + Wait + Sync>(
     sums(alloc, &asked?)
 }
 
-/// The sums of those who stayed.
+/// The sums of the clients that stayed.
 fn sums(alloc: Global, asked: &[Result<Option<u64>, Fault>]) -> Result<Vec<u64>, Fault> {
     let mut sums = Vec::new(alloc);
     for asked in asked {
@@ -110,7 +110,7 @@ struct Server<'k> {
 
 /// The request loop. A client that is gone has hung its answers up: the write there is refused, and
 /// leaves no note that would end the next read. The pipe of a client that can't be answered is hung
-/// up, so it doesn't wait.
+/// up, so that the client doesn't wait.
 fn serve<R: Wait>(rt: &R, alloc: Global, server: &mut Server<'_>) -> Result<(), Fault> {
     let Server { reader, answers } = server;
     let mut request = [0; 2];

@@ -2,7 +2,7 @@
 //!
 //! A job is a note group: its first process is made with `RFPROC` and `RFNOTEG`, and the others are
 //! its children, which are in its group. The shell has the roster, so nobody else makes processes
-//! or posts to a group: as on Plan 9, where the kernel does both for whoever asks it.
+//! or posts to a group. On Plan 9 the kernel likewise does both for the process that asks it.
 #![tactic(auto)]
 
 use plan9::{
@@ -13,7 +13,7 @@ use std::io;
 use std::sync::Wait;
 use std::thread::{Threads, join, map_vec};
 
-/// How many jobs there are, how many processes each has, and which is stopped.
+/// How many jobs there are, how many processes each has, and which job is stopped.
 const JOBS: u64 = 3;
 
 const PROCS: u64 = 4;
@@ -85,7 +85,8 @@ impl<'k> Shell<'k> {
         Ok(all.push(Worker { job, proc, door })?)
     }
 
-    /// Stops one job by a note, and gives all others their work. Says how many were sent the note.
+    /// Stops one job by a note, and gives all others their work. Returns how many were sent the
+    /// note.
     fn direct(&mut self) -> Result<u64, Fault> {
         let interrupt = NoteSet::of(Note::Interrupt);
         let noted = self

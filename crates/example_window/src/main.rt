@@ -1,8 +1,8 @@
 //! A window system's multiplexer. It shows one reader of many devices.
 //!
 //! A keyboard, a mouse and the frame of a window each write events into one pipe, and one reader
-//! takes them as they come, whichever device they are from: it waits at one place for all.
-//! When the window is closed the pipe is hung up: what was written is still read, and then it ends.
+//! takes them as they come, from whichever device: it waits at one place for all. When the window
+//! is closed the pipe is hung up: what was written is still read, and then it ends.
 #![tactic(auto)]
 
 use plan9::{
@@ -89,8 +89,8 @@ fn show<R: Wait>(rt: &R, alloc: Global, mut reader: Reader<'_, '_>) -> Result<Wi
     show_in(rt, &mut reader, &mut window).map(|()| window)
 }
 
-/// The multiplexer. Each read is one event, since a read never joins two writes. Where an event
-/// can't be shown it reads on, so that no device waits for ever.
+/// The multiplexer. Each read is one event, since a read never joins two writes. Where it can't
+/// show an event it reads on, so that no device waits for ever.
 fn show_in<R: Wait>(rt: &R, reader: &mut Reader<'_, '_>, window: &mut Window) -> Result<(), Fault> {
     let mut shown = Ok(());
     let mut buffer = [0; 8];

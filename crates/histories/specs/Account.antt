@@ -13,7 +13,7 @@ AreDifferent [] = ⊤
 AreDifferent (number ∷ numbers) =
     AllByRecursion (λ other. number ≢ other) numbers × AreDifferent numbers
 
--- so many numbers from this one on
+-- the numbers from `first` on, `count` of them
 abbrev pub numbers_from : ℕ → ℕ → List ℕ
 numbers_from first zero = []
 numbers_from first (suc count) = first ∷ numbers_from (first + 1) count
@@ -29,11 +29,11 @@ module _ {Entry : Type 0} where
   abbrev pub has_number : List (Share Entry) → ℕ → Bool
   has_number shares number = list_any (λ share. share.number == number) shares
 
-  -- the number is one that the seat gave
+  -- the seat gave this number
   abbrev pub has_given : Account Entry → ℕ → Bool
   has_given account number = list_any (λ given. given == number) account.gave
 
-  -- the seat has the number 0 and each number that it gave: then it has all that there are
+  -- the seat has the number 0 and each number that it gave: then it has all numbers that there are
   pub record HasAllNumbers (account : Account Entry) : Type 0 where
     pub first : IsTrue (has_number account.shares 0)
     pub gave : AllByRecursion (λ number. IsTrue (has_number account.shares number)) account.gave
@@ -42,7 +42,7 @@ module _ {Entry : Type 0} where
   abbrev pub spent_account : Account Entry
   spent_account = record { number = 0; shares = []; seen = []; gave = [] }
 
-  -- the first seat: it has 0 and so many numbers more, which it gave itself
+  -- the first seat: it has 0 and this many further numbers, which it gave itself
   abbrev pub first_account : ℕ → Account Entry
   first_account more =
       record {
@@ -59,7 +59,7 @@ module _ {Entry : Type 0} where
   shorter_of first second = if nat_lt (length first) (length second) then first else second
 
 module _ {Entry : Type 0} (by : Entry → ℕ) where
-  -- the entries by the number are its mine, each once and in their order
+  -- the entries by the share's number are its `mine`, each once and in their order
   pub record HasItsEntries (history : List Entry) (share : Share Entry) : Type 0 where
     pub entries : entries_by by share.number history ≡ share.mine
 
@@ -76,7 +76,7 @@ module _ {Entry : Type 0} (by : Entry → ℕ) where
       }
 
 module _ {State Entry : Type 0} (meaning : Meaning State Entry) (opening : State) where
-  -- what the seat has seen is a legal history, in which its own entries stand once each
+  -- what the seat has seen is a legal history that has each of its own entries once
   pub record KnowsHistory (limit : ℕ) (account : Account Entry) : Type 0 where
     pub history : IsHistory meaning opening limit account.seen
     pub mine : AllByRecursion (HasItsEntries meaning.by account.seen) account.shares

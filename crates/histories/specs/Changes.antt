@@ -1,5 +1,5 @@
--- What may become of an account: an entry, a split, a number handed over, a join.
--- First the account after each, and then what a call tells of it.
+-- The changes of an account: an entry, a split, a number handed over, a join. First the account
+-- after each change, and then what a call says of it.
 use Rattle.std.specs.Prelude.{◌≡◌, ℕ, ◌<◌, List, [], ◌∷◌, ◌++◌, map, IsTrue}
 use Rattle.std.specs.List.{AllByRecursion}
 use Rattle.histories.specs.declared.account.Account.{Account}
@@ -17,7 +17,8 @@ module _ {Entry : Type 0} where
   abbrev pub parent_account : ℕ → Account Entry → Account Entry
   parent_account number account = record account { gave = number ∷ account.gave }
 
-  -- the seat that got it: it has seen what its parent has, has made no entry and gave nothing
+  -- the seat that got the number: it has seen what its parent has, has made no entry and gave
+  -- nothing
   abbrev pub child_account : ℕ → Account Entry → Account Entry
   child_account number account =
       record { number = number; shares = unused_share number ∷ []; seen = account.seen; gave = [] }
@@ -49,7 +50,7 @@ module _ {Entry : Type 0} where
     pub second_past : IsPast second.seen joined.seen
 
 module _ {Entry : Type 0} (by : Entry → ℕ) where
-  -- the seat made an entry, after which stands this past
+  -- the seat made an entry, whose past this is
   abbrev pub entered_account : Entry → List Entry → Account Entry → Account Entry
   entered_account entry past account =
       record account {
@@ -58,7 +59,7 @@ module _ {Entry : Type 0} (by : Entry → ℕ) where
       }
 
   -- a look at the history: what the seat had seen is a past of it, what came since is by others,
-  -- and a seat that has all the numbers had seen the whole
+  -- and a seat that has all the numbers had seen the whole history
   pub record LooksAt (history : List Entry) (account : Account Entry) : Type 0 where
     pub since : List Entry
     pub history_is : history ≡ since ++ account.seen
@@ -66,14 +67,15 @@ module _ {Entry : Type 0} (by : Entry → ℕ) where
     pub mine : AllByRecursion (HasItsEntries by history) account.shares
     pub alone : HasAllNumbers account → since ≡ []
 
-  -- an entry: it stands after a past at which the seat looked
+  -- an entry: its past is a history at which the seat looked
   pub record AddsEntry (entry : Entry) (old new : Account Entry) : Type 0 where
     pub past : List Entry
     pub looked : LooksAt past old
     pub new_is : new ≡ entered_account entry past old
 
-  -- the next number, as far as the seat can know: it is above the seat's own, those that it gave,
-  -- and those that it has seen at work; and a seat that has all the numbers has each one below it
+  -- the next number, as far as the seat can know: it is above the seat's own numbers, the numbers
+  -- that it gave, and the numbers whose entries it has seen; a seat that has all the numbers has
+  -- each number below it
   pub record IsNext (account : Account Entry) (next : ℕ) : Type 0 where
     pub own : AllByRecursion (λ share. share.number < next) account.shares
     pub gave : AllByRecursion (λ number. number < next) account.gave
@@ -81,7 +83,7 @@ module _ {Entry : Type 0} (by : Entry → ℕ) where
     pub all : HasAllNumbers account → (number : ℕ) → number < next →
         IsTrue (has_number account.shares number)
 
-  -- a split: the child has the next number; its parent gave it, and is as it was otherwise
+  -- a split: the child has the next number; its parent gave the number, and is otherwise as it was
   pub record GivesNumber (old new child : Account Entry) : Type 0 where
     pub next : IsNext old child.number
     pub child_is : child ≡ child_account child.number old

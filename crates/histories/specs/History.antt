@@ -1,4 +1,4 @@
--- A history is the list of its entries, newest first: after each entry stands its past.
+-- A history is the list of its entries, newest first: each entry is followed by its past.
 use Rattle.std.specs.Prelude.{◌≡◌, ℕ, List, [], ◌∷◌, ◌++◌, ◌==◌, ◌<◌, ⊤}
 use Rattle.std.specs.List.{filter, AllByRecursion}
 

@@ -1,5 +1,5 @@
 -- One history as the image of another. A layer above an object may say more than the object keeps:
--- it has a meaning of its own, of which the object's is the image, or the other way round.
+-- it has a meaning of its own, and the object's meaning is the image of it, or the other way round.
 use Rattle.std.specs.Prelude.{◌≡◌, map}
 use Rattle.histories.specs.declared.account.Account.{Account}
 use Rattle.histories.specs.declared.account.Share.{Share}

@@ -13,7 +13,7 @@ module _ (Entry : Type 0) where
   PastsAreInLine = (first second history : List Entry) → IsPast first history →
       IsPast second history → length first ≤ length second → IsPast first second
 
-  -- this seat has the number 0 and all that it gave
+  -- this seat has the number 0 and all numbers that it gave
   pub record IsAlone (by : Entry → ℕ) (ledger : Ledger Entry) (accounts : List (Account Entry))
       (seat : ℕ) (account : Account Entry) : Type 0 where
     pub seats : AreSeats by (λ its. its) ledger accounts
@@ -26,7 +26,7 @@ module _ (Entry : Type 0) where
       (seat : ℕ) (account : Account Entry) → IsAlone by ledger accounts seat account →
       (number : ℕ) → number < ledger.next → IsTrue (has_number account.shares number)
 
-  -- no other seat has one
+  -- no other seat has a number
   abbrev pub NoOtherHasOne : Type 0
   NoOtherHasOne = (by : Entry → ℕ) (ledger : Ledger Entry) (accounts : List (Account Entry))
       (seat : ℕ) (account : Account Entry) → IsAlone by ledger accounts seat account →

@@ -8,10 +8,10 @@ use Rattle.histories.specs.declared.account.Account.{Account}
 use Rattle.histories.specs.History.{IsPast, AreByBelow}
 use Rattle.histories.specs.Account.{AreDifferent, HasItsEntries, numbers_in, has_given}
 
--- the one history, and who has which number of those that were given
+-- the one history, and which seat has each number that was given
 pub record Ledger (Entry : Type 0) : Type 0 where
   pub history : List Entry
-  -- the next number: those below it were given
+  -- the next number: all numbers below it were given
   pub next : ℕ
   -- the seat that has the number
   pub owner : ℕ → ℕ
@@ -24,7 +24,7 @@ module _ {Entry : Type 0} where
     pub given : number < ledger.next
     pub owner_is : ledger.owner number ≡ seat
 
-  -- the first seat has 0 and so many numbers more
+  -- the first seat has 0 and this many further numbers
   abbrev pub opening_ledger : ℕ → Ledger Entry
   opening_ledger more =
       record { history = []; next = more + 1; owner = λ number. 0; parent = λ number. 0 }
@@ -33,7 +33,7 @@ module _ {Entry : Type 0} where
   abbrev pub ledger_with : Entry → Ledger Entry → Ledger Entry
   ledger_with entry ledger = record ledger { history = entry ∷ ledger.history }
 
-  -- the next number was given by the seat of this one, to a new seat
+  -- the seat of the number `giver` gave the next number to a new seat
   abbrev pub ledger_gave : (giver child : ℕ) → Ledger Entry → Ledger Entry
   ledger_gave giver child ledger =
       record ledger {
@@ -42,7 +42,8 @@ module _ {Entry : Type 0} where
         parent = λ number. if number == ledger.next then giver else ledger.parent number;
       }
 
-  -- the number has a new owner; the numbers that it gave are told by the one that its seat keeps
+  -- the number has a new owner; the numbers that it gave now count as given by the number that its
+  -- seat keeps
   abbrev pub ledger_handed : (kept handed child : ℕ) → Ledger Entry → Ledger Entry
   ledger_handed kept handed child ledger =
       record ledger {
@@ -50,7 +51,7 @@ module _ {Entry : Type 0} where
         parent = λ number. if ledger.parent number == handed then kept else ledger.parent number;
       }
 
-  -- all numbers of the spent seat are the joined one's
+  -- all numbers of the spent seat go to the joined seat
   abbrev pub ledger_joined : (joined spent : ℕ) → Ledger Entry → Ledger Entry
   ledger_joined joined spent ledger =
       record ledger {
@@ -72,7 +73,7 @@ module _ {Entry : Type 0} (by : Entry → ℕ) where
     pub gave : AllByRecursion (λ number. number < ledger.next) account.gave
 
 module _ {View Entry : Type 0} (account_of : View → Account Entry) where
-  -- the number was given by a lower one, and the seat that has that one tells so
+  -- a lower number gave this number, and the account of the seat that has the lower number says so
   pub record WasGiven (ledger : Ledger Entry) (views : List View) (number : ℕ) : Type 0 where
     pub lower : ledger.parent number < number
     pub view : View
@@ -87,6 +88,6 @@ module _ {View Entry : Type 0} (by : Entry → ℕ) (account_of : View → Accou
     -- each seat's account fits
     pub each_seat : (seat : ℕ) (view : View) → get_elem? views seat ≡ some view →
         FitsLedger by ledger seat (account_of view)
-    -- each number but 0 was given by a seat, which tells so: no number comes from nowhere
+    -- a seat gave each number but 0, and its account says so: no number comes from nowhere
     pub each_number : (number : ℕ) → 0 < number → number < ledger.next →
         WasGiven account_of ledger views number

@@ -3,7 +3,7 @@
 //! and they take no memory.
 use std::collections::LinkedList;
 
-/// A number of a seat.
+/// A number of a seat, with its entries.
 pub struct Share<E> {
     pub number: u64,
     /// The entries by this number, newest first.

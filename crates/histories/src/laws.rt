@@ -12,8 +12,8 @@ pub fn pasts_are_in_line<E>()
     ensures { PastsAreInLine E }
 {}
 
-/// A seat that has the number 0 and all that it gave has every number that there is,
-/// no other seat has one, and it has seen the whole history.
+/// A seat that has the number 0 and all numbers that it gave has every number that there is. No
+/// other seat has a number, and this seat has seen the whole history.
 pub fn all_numbers_know_all<E>()
     ensures every { HasEveryNumber E }
     ensures alone { NoOtherHasOne E }

@@ -18,13 +18,14 @@ module _ {Object Call Reply : Type 0} where
         record { number = number; shares = unused_share number ∷ []; seen = []; gave = gave }
     pub given_is : view.given ≡ given
 
-  -- a request was served: it stands after a past that ends what the seat had seen
+  -- a request was served: its past continues what the seat had seen
   pub record Serves (served : Operation Call Reply)
       (old new : View Object Call Reply) : Type 0 where
     pub account : AddsEntry server served old.account new.account
     pub given : old.given ≤ new.given
 
-  -- a split: the child has the next number, which its parent gave, and has seen what that has
+  -- a split: the child has the next number, which its parent gave, and has seen what its parent has
+  -- seen
   pub record GivesSeat (limit : ℕ) (old new child : View Object Call Reply) : Type 0 where
     pub account : GivesNumber server old.account new.account child.account
     pub later : old.given ≤ child.account.number
@@ -54,11 +55,11 @@ module _ {Object State Call Reply : Type 0}
         between.account
     pub first_served : Serves first old between
     pub second_served : Serves second between new
-    -- no other request stands between them
+    -- no other request is between them
     pub at_once : new.account.seen ≡ second ∷ between.account.seen
 
-  -- a request was served, and the one that followed its answer, if one did, by the seat that it
-  -- names or else by the seat's own number
+  -- a request was served, and so was the request that followed its answer, if there was one, by the
+  -- seat that it names or else by the seat's own number
   abbrev pub ServesThen : ℕ → Operation Call Reply → Option Call → Option Reply →
       View Object Call Reply → View Object Call Reply → Type 0
   ServesThen own first None None old new = Serves first old new

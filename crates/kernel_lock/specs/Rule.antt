@@ -15,7 +15,7 @@ use Rattle.kernel_lock.specs.declared.view.View.{View}
 use Rattle.kernel_lock.specs.Definition.{Definition, server, meaning_of, opening_state}
 use Rattle.kernel_lock.specs.View.{account_of}
 
--- how a lock stands: the one history with its numbers, the seat that is inside, and the word
+-- the state of a lock: the one history with its numbers, the seat that is inside, and the word
 pub record LockState (Call Reply : Type 0) : Type 0 where
   pub ledger : Ledger (Operation Call Reply)
   pub holder : ℕ
@@ -36,9 +36,9 @@ module _ {Call Reply : Type 0} (now : LockState Call Reply) (seat : ℕ) where
   FitsStage given (Joining other) = IsPast other now.ledger.history
 
   pub record FitsLock {Object : Type 0} (view : View Object Call Reply) : Type 0 where
-    -- as many seats were given as it knows of
+    -- the seat knows of no more seats than were given
     pub given : view.given ≤ now.ledger.next
-    -- a seat that is inside is the only one; a joined one saw a past of the history also before
+    -- a seat that is inside is the only one; a joined seat saw a past of the history also before
     pub stage : FitsStage view.given view.stage
 
 module _ {Object State Call Reply : Type 0}
@@ -52,12 +52,13 @@ module _ {Object State Call Reply : Type 0}
         state_after (meaning_of definition) (opening_state definition key) ledger.history
     pub next_is : guarded.next ≡ ledger.next
 
-  -- one legal history, which each seat has seen in part, and in which its requests stand once
+  -- one legal history, which each seat has seen in part, and which has the seat's requests once
+  -- each
   pub record IsOneHistory (key : Key Object)
       (s : table.State (Option (Guarded Object)) (View Object Call Reply)) : Type 0 where
     -- the history, and who has which number
     pub ledger : Ledger (Operation Call Reply)
-    -- the seat that is inside, where one is
+    -- the seat that is inside, where there is one
     pub holder : ℕ
     -- the table has one word
     pub one_word : length s.words ≡ 1

@@ -30,7 +30,7 @@ module _ {Object Call Reply : Type 0} where
   abbrev pub number_of : LockSeat Object Call Reply → ℕ
   number_of seat = seat.number
 
-  -- the seat's numbers, each with its requests: its mine
+  -- the seat's numbers, each with its requests (its `mine`)
   abbrev pub shares_of : LockSeat Object Call Reply → List (Share (Operation Call Reply))
   shares_of seat = (account_of seat).shares
 
@@ -50,11 +50,11 @@ module _ {Object Call Reply : Type 0} where
   abbrev pub HasNumber : LockSeat Object Call Reply → ℕ → Type 0
   HasNumber seat number = IsTrue (has_number (shares_of seat) number)
 
-  -- the seat has 0 and each number that it gave: all that there are
+  -- the seat has 0 and each number that it gave: all numbers that there are
   abbrev pub HasAll : LockSeat Object Call Reply → Type 0
   HasAll seat = HasAllNumbers (account_of seat)
 
-  -- the seat is one of the lock's, and stands between two calls
+  -- the seat is one of the lock's, and is between two calls
   pub record IsSeatOf (lock : Locked Object Call Reply)
       (seat : LockSeat Object Call Reply) : Type 0 where
     pub table : seat.badge.table_id ≡ lock.table.shared.table_id
@@ -130,7 +130,7 @@ module _ {Object State Call Reply : Type 0}
     pub second : Applies between next answer new
     pub at_once : seen_of new ≡ served_by between next answer ∷ seen_of between
 
-  -- a request was served with this reply and, where one follows it, that one too
+  -- a request was served with this reply and, where a request follows it, that request too
   abbrev pub AppliesThen :
       Locked Object Call Reply → LockSeat Object Call Reply → Call → Reply → Option Call →
       Option Reply → LockSeat Object Call Reply → Type 0

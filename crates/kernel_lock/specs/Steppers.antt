@@ -14,18 +14,18 @@ abbrev pub Stepper : Type 0 → Type 0 → Type 0 → Type 0
 Stepper Object Call Reply = Seat (Slot Object) (View Object Call Reply)
 
 module _ {Object Call Reply : Type 0} where
-  -- it is one of the lock's
+  -- the stepper is one of the lock's
   pub record IsStepperOf (lock : Locked Object Call Reply)
       (stepper : Stepper Object Call Reply) : Type 0 where
     pub table : stepper.table_id ≡ lock.table.shared.table_id
     pub key : stepper.me.0.key ≡ Some lock.table.shared.key
 
-  -- it is between two calls
+  -- the stepper is between two calls
   pub record IsOutside (stepper : Stepper Object Call Reply) : Type 0 where
     pub stage : stepper.me.0.stage ≡ Outside
     pub no_slot : stepper.me.1 ≡ []
 
-  -- a step changes what it knows and has, and nothing else of it
+  -- a step changes what the stepper knows and has, and nothing else of it
   pub record IsSameStepper (before after : Stepper Object Call Reply) : Type 0 where
     pub table : after.table_id ≡ before.table_id
     pub id : after.id ≡ before.id

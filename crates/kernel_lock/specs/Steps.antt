@@ -1,4 +1,4 @@
--- What each kind of step tells its seat, and what a release asks.
+-- What a seat learns from each kind of step, and what a release asks.
 use Rattle.std.specs.Prelude.{◌≡◌, ◌≢◌, ℕ, ◌≤◌, List, [], ◌∷◌, length}
 use Rattle.std.specs.Prelude.{Option, Some, IsTrue, IfSome}
 use Rattle.atomic_table.specs.Table as table
@@ -86,7 +86,7 @@ module _ {Object State Call Reply : Type 0}
     pub finds : (key : Key Object) → before.0.key ≡ Some key →
         FindsObject key before.0 history guarded
 
-  -- Acquire: the seat is inside where the lock was free, and else nothing changed
+  -- Acquire: where the lock was free the seat is inside, and else nothing changed
   pub record HasAcquired (before : Me Object Call Reply) (found : ℕ)
       (after : Me Object Call Reply) : Type 0 where
     pub free : found ≡ 0 → TakesLock before after
@@ -99,7 +99,7 @@ module _ {Object State Call Reply : Type 0}
         (state_after (meaning_of definition) (opening_state definition key) history) served
     pub own : IsTrue (has_number view.account.shares served.by)
 
-  -- Enter: as if the seat had given the lock back, and at once had taken it again
+  -- Enter: as if the seat had given the lock back and had taken it again at once
   pub record HasEntered (served : Option (Operation Call Reply))
       (before after : Me Object Call Reply) : Type 0 where
     pub between : Me Object Call Reply
@@ -143,14 +143,14 @@ module _ {Object State Call Reply : Type 0}
     pub own : IsTrue (has_number before.0.account.shares by)
     pub taken : TakesLock before after
 
-  -- and is outside again, after the request that it made inside, where it found this history
+  -- the seat is outside again, after the request that it made inside, where it found this history
   pub record HasServed (key : Key Object) (history : List (Operation Call Reply))
       (served : Operation Call Reply) (before after : Me Object Call Reply) : Type 0 where
-    -- it is still one of this lock's
+    -- it is still a seat of this lock
     pub key_is : after.0.key ≡ Some key
     pub stage_is : after.0.stage ≡ Outside
     pub no_slot : after.1 ≡ []
-    -- its request stands after a past that ends what it had seen
+    -- its request's past continues what it had seen
     pub serves : Serves served before.0 after.0
     -- which is that history
     pub follows : after.0.account.seen ≡ served ∷ history
@@ -158,7 +158,7 @@ module _ {Object State Call Reply : Type 0}
     pub knows : KnowsHistory (meaning_of definition) (opening_state definition key) key.limit
         after.0.account
 
-  -- Settle: the seat is outside, and of the two histories that it saw one is a past of the other
+  -- Settle: the seat is outside, and one of the two histories that it saw is a past of the other
   pub record HasSettled (before after : Me Object Call Reply) : Type 0 where
     pub view_is : after.0 ≡ settled_view before.0
     pub slots_are : after.1 ≡ before.1
@@ -168,7 +168,7 @@ module _ {Object State Call Reply : Type 0}
         KnowsHistory (meaning_of definition) (opening_state definition key) key.limit
         before.0.account
 
-  -- Merge and Settle: one seat of two, and both had seen a past of what it has seen
+  -- Merge and Settle: one seat of two; both had seen a past of what it has seen
   pub record HasMerged (key : Key Object)
       (first second merged : View Object Call Reply) : Type 0 where
     pub view_is : merged ≡ settled_view (joined_view first second)

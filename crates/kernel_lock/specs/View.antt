@@ -38,7 +38,7 @@ module _ {Object Call Reply : Type 0} where
       View Object Call Reply
   inside_view history given view = record view { given = given; stage = Inside history }
 
-  -- the seat is outside again; if a request was served, it has seen the history with that one
+  -- the seat is outside again; if a request was served, it has seen the history with that request
   abbrev pub outside_view : List (Operation Call Reply) → Option (Operation Call Reply) →
       View Object Call Reply → View Object Call Reply
   outside_view history None view = record view { stage = Outside }
@@ -50,7 +50,7 @@ module _ {Object Call Reply : Type 0} where
   parent_view view =
       record view { account = parent_account view.given view.account; given = view.given + 1 }
 
-  -- the seat that got it: it has seen what its parent has, and has made no request
+  -- the seat that got the number: it has seen what its parent has, and has made no request
   abbrev pub child_view : View Object Call Reply → View Object Call Reply
   child_view view =
       record view {

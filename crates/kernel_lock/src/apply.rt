@@ -20,8 +20,8 @@ use std::snapshot::Snapshot;
 use std::sync::Wait;
 
 impl<O: Object> Locked<O> {
-    /// Has the object answer the request, in its turn.
-    /// The reply is what the object's definition gives there.
+    /// Has the object answer the request, in its turn. The reply is what the object's definition
+    /// gives in that state.
     pub fn apply<R: Wait>(&self, rt: &R, seat: &mut LockSeat<O>, request: O::Call) -> O::Reply
         requires seat { IsSeatOf self.now seat.old }
         requires named { NamesOwn O.definition seat.old request }
@@ -41,8 +41,8 @@ impl<O: Object> Locked<O> {
         reply
     }
 
-    /// Has the object answer the request in its turn and, while it holds the lock, the request
-    /// that follows that answer, if one does. It takes the lock once.
+    /// Has the object answer the request in its turn and, while it holds the lock, the request that
+    /// follows that answer, if there is one. It takes the lock once.
     pub fn apply_then<R: Wait, F: Follows<O::Call, O::Reply>>(
         &self,
         rt: &R,

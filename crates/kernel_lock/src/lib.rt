@@ -1,8 +1,7 @@
-//! The kernel lock: any sequential object, called by many threads through one lock.
-//! Each request stands in one legal history, with the reply that the object's definition
-//! gives there.
-//! Read `object`, `view`, `rule`, `plays`, `lock_seat`, `locked`, `waiters`, `steps`, `waiting`,
-//! and then `apply` and `seats`.
+//! The kernel lock: any sequential object, called by many threads through one lock. Each request is
+//! in one legal history, with the reply that the object's definition gives there. Read `object`,
+//! `view`, `rule`, `plays`, `lock_seat`, `locked`, `waiters`, `steps`, `waiting`, and then `apply`
+//! and `seats`.
 #![tactic(auto)]
 
 mod apply;

@@ -6,9 +6,8 @@ use crate::rule::{Knowledge, Stepper};
 use atomic_table::Badge;
 use std::mem;
 
-/// A seat at a lock, with one number or, after a join, with several.
-/// A thread calls the object with it.
-/// What it has seen is a past of the history, in which its own requests stand once each.
+/// A seat at a lock, with one number or, after a join, with several. A thread calls the object with
+/// it. What it has seen is a past of the history, and has each of its own requests once.
 #[derive(Drop)]
 pub struct LockSeat<O: Object> {
     pub(crate) badge: Badge<Knowledge<O>>,
@@ -25,7 +24,8 @@ impl<O: Object> LockSeat<O> {
         self.number
     }
 
-    /// What the seat makes its steps with. A blank badge stands in for what it knows until `sit`.
+    /// The stepper with which the seat makes its steps. A blank badge stands in for what it knows
+    /// until `sit`.
     pub(crate) fn take_token(&mut self) -> Stepper<O>
         requires { self.old.badge.views ≡ view_of self.old ∷ [] }
         ensures table { result.table_id ≡ self.old.badge.table_id }

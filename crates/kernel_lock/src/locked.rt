@@ -35,8 +35,8 @@ impl<O: Object> Locked<O> {
     ghost use Rattle.kernel_lock.specs.Seats.{IsSeatOf, IsFirstSeat, SeesHistory};
     ghost use Rattle.kernel_lock.specs.Seats.{Closes, HasAll, limit_of, opening_of};
 
-    /// Puts the object under a lock that may give this many seats, and gives the first of them.
-    /// Where there is no memory the object comes back.
+    /// Puts the object under a lock that may give this many seats, and gives the first seat. Where
+    /// there is no memory, the object comes back.
     pub fn new(alloc: Global, object: O, seats: u64) -> Result<Opened<O>, AllocFailed<O>>
         requires { 0 < seats }
         ensures opening { IfOk result (λ opened.

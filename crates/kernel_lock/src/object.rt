@@ -1,4 +1,4 @@
-//! What a sequential object is, and what it means.
+//! A sequential object, and its meaning.
 ghost use Rattle.std.specs.Prelude.{◌≡◌};
 ghost use Rattle.kernel_lock.specs.Definition.{Definition};
 
@@ -28,7 +28,8 @@ pub trait Object: Drop {
             definition.after (definition.state self.old) request };
 }
 
-/// What a seat asks after a request while it still holds the lock, by what that was answered.
+/// The request that a seat makes next while it still holds the lock, by the answer to the request
+/// before.
 pub trait Follows<Q, R> {
     ghost use Rattle.std.specs.Prelude.{Option};
 
@@ -40,7 +41,7 @@ pub trait Follows<Q, R> {
         ensures { result ≡ follower reply.now };
 }
 
-/// What two requests were answered, of which the second followed the first or did not.
+/// The answers to two requests, of which the second followed the first or was not made.
 #[derive(Drop)]
 pub struct Answers<R> {
     pub first: R,

@@ -1,4 +1,4 @@
-//! What each kind of step tells its seat. These types are for the proofs alone.
+//! What a seat learns from each kind of step. These types are for the proofs alone.
 ghost use Rattle.std.specs.Prelude.{Option, None};
 ghost use Rattle.kernel_lock.specs.Steps.{HasAcquired, HasWatched, HasReleased, HasEntered};
 ghost use Rattle.kernel_lock.specs.Steps.{HasSettled};
@@ -28,8 +28,8 @@ impl<O, Q, R> Play<Option<Guarded<O>>, View<O, Q, R>> for Poll {
     ghost then = { λ _ before _ after. HasWatched before after };
 }
 
-/// The request that was served inside, or none where the seat was divided.
-/// Each release picks it.
+/// The request that was served inside, or none where the seat was divided. Each release picks its
+/// own.
 pub trait Made<Q, R> {
     ghost use Rattle.kernel_lock.specs.declared.view.Operation.{Operation};
 

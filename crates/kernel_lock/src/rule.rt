@@ -9,11 +9,10 @@ use atomic_table::{Seat, Shared, Table, TableRule};
 use std::alloc::Global;
 use std::marker::PhantomData;
 
-/// There is one legal history, newest first.
-/// Where the word is 0 the object is at home, as the history leaves it, beside the next number.
-/// What each seat has seen is a past of the history, in which its own requests stand once each.
-/// The numbers of the seats differ, and each but 0 was given by the seat of a lower one,
-/// which knows it.
+/// There is one legal history, newest first. Where the word is 0 the object is at home, as the
+/// history leaves it, beside the next number. What each seat has seen is a past of the history, and
+/// has each of its own requests once. The numbers of the seats differ. The seat of a lower number
+/// gave each number but 0, and knows that it did.
 pub struct OneHistory<O> {
     object: PhantomData<O>,
 }

@@ -96,7 +96,8 @@ impl<O: Object> Locked<O> {
         })
     }
 
-    /// Makes one seat of two: it has the numbers of both, and the first's as its own.
+    /// Makes one seat of two: it has the numbers of both, and the first seat's own number as its
+    /// own.
     pub fn join(&self, first: LockSeat<O>, second: LockSeat<O>) -> LockSeat<O>
         requires first { IsSeatOf self.now first }
         requires second { IsSeatOf self.now second }

@@ -1,5 +1,5 @@
-//! The kinds of step on a lock's word and slot, a function each. All orderings are the table's.
-//! Above each step stand the seat before and after it, and why the rule stays.
+//! The kinds of step on a lock's word and slot, a function each. All orderings are the table's. The
+//! comment above each step has the seat before and after it, and why the rule stays.
 ghost use Rattle.std.specs.Prelude.{◌≡◌, ◌<◌, [], ◌∷◌, None, Some};
 ghost use Rattle.std.specs.Bool.{OnTrue, OnFalse};
 ghost use Rattle.kernel_lock.specs.declared.view.Stage.TheVariants.{Inside};

@@ -1,5 +1,4 @@
-//! The counter that the tests of those who wait for a lock call. All other tests of locks stand in
-//! `tests_objects`.
+//! The counter that the tests of waiters call. All other tests of locks are in `tests_objects`.
 ghost use Rattle.std.specs.Prelude.{ℕ, ◌+◌, ◌%◌, ◌^◌, None};
 ghost use Rattle.kernel_lock.specs.Seats.{IsSeatOf};
 

@@ -12,12 +12,12 @@ pub struct Operation<Q, R> {
     pub reply: R,
 }
 
-/// Where a seat stands between two steps.
+/// Where a seat is between two steps.
 pub enum Stage<Q, R> {
     Outside,
     /// It has taken the lock, and this is the history.
     Inside(LinkedList<Operation<Q, R>>),
-    /// It was joined with a seat that had seen this.
+    /// It was joined with a seat that had seen this history.
     Joining(LinkedList<Operation<Q, R>>),
 }
 
@@ -31,7 +31,7 @@ pub struct Key<O> {
 
 /// What a seat knows.
 pub struct View<O, Q, R> {
-    /// The key of its lock, or `None` where it was spent in a join.
+    /// The key of its lock, or `None` where the seat was spent in a join.
     pub key: Option<Key<O>>,
     /// Its numbers with their requests, what it has seen, and the numbers that it gave.
     pub account: Account<Operation<Q, R>>,
@@ -40,7 +40,7 @@ pub struct View<O, Q, R> {
     pub stage: Stage<Q, R>,
 }
 
-/// What the lock guards: it lies in the slot.
+/// What the lock guards, in the slot.
 #[derive(Drop)]
 pub struct Guarded<O> {
     pub object: O,

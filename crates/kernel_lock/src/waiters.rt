@@ -1,8 +1,8 @@
-//! Who waits for a lock. The mark is no word of the table and no clause says what it holds: it
-//! keeps those who wait from burning the processor, and those who release from calling the system
-//! where nobody sleeps. What has to be done for those who sleep is a value that only the next act
-//! spends: a lock that was given back is looked at, a mark that is set is cleared, and then one
-//! thread is woken; a thread that has slept sets the mark again.
+//! Who waits for a lock. The mark is no word of the table, and no clause says what it holds. It
+//! keeps waiters from burning the processor, and releases from system calls where nobody sleeps.
+//! What has to be done for sleepers is a value that only the next act spends: after a release the
+//! mark is looked at, a mark that is set is cleared, and then one thread is woken. A thread that
+//! has slept sets the mark again.
 ghost use Rattle.std.specs.Prelude.{◌≡◌, ◌≢◌, ◌%◌, true, false, IfNone};
 ghost use Rattle.kernel_lock.specs.declared.view.Stage.TheVariants.{Outside};
 
@@ -25,7 +25,7 @@ pub struct Waiters {
     mark: AtomicU64,
 }
 
-/// A thread that is about to sleep has said so, and this is the mark that it left.
+/// A thread has announced that it is about to sleep, and this is the mark that it left.
 #[derive(Drop, Debug, PartialEq)]
 pub(crate) struct Announced {
     mark: u32,
@@ -47,8 +47,8 @@ impl Taken {
     }
 }
 
-/// An attempt at the lock: whether the thread that has to get it has slept for it.
-/// It can't be dropped: `pass_on` spends it.
+/// An attempt at the lock: whether the thread that makes it has slept for it. It can't be dropped:
+/// `pass_on` spends it.
 #[must_use]
 pub(crate) struct Attempt {
     slept: bool,
@@ -62,15 +62,15 @@ impl Attempt {
     }
 }
 
-/// The lock was given back, and nobody was told. It can't be dropped: `look` spends it.
+/// The lock was given back, and nobody was woken yet. It can't be dropped: `look` spends it.
 #[must_use]
 pub(crate) struct GivenBack {
     marker: (),
 }
 
 impl GivenBack {
-    /// Who makes it has given the lock back: a thread that is woken before may find it taken
-    /// and sleep again, and nobody would wake it then.
+    /// The caller has given the lock back. A thread that is woken before that may find the lock
+    /// taken and sleep again, and then nobody would wake it.
     pub(crate) fn by<O: Object>(_outside: &Stepper<O>) -> GivenBack
         requires { _outside.now.me.0.stage ≡ Outside }
     {
@@ -85,8 +85,8 @@ pub(crate) struct Marked {
     ghost odd: { mark % 2 ≡ 1 },
 }
 
-/// A mark that was taken away, and its sleeper is not yet woken.
-/// It can't be dropped: `wake_one` spends it.
+/// A mark that was cleared, and its sleeper is not yet woken. It can't be dropped: `wake_one`
+/// spends it.
 #[must_use]
 pub(crate) struct Cleared {
     marker: (),
@@ -119,9 +119,9 @@ impl Waiters {
         Attempt { slept: true }
     }
 
-    /// Ends the attempt of a thread that has the lock, and says whether it set the mark again.
-    /// Where it slept others may sleep still, and it was woken in their place:
-    /// its release wakes one of them.
+    /// Ends the attempt of a thread that has the lock, and says whether it set the mark again. A
+    /// thread that slept was woken in place of others, who may sleep still: its release wakes one
+    /// of them.
     pub(crate) fn pass_on(&self, attempt: Attempt) -> Option<Announced>
         ensures slept { IfNone result (attempt.slept ≡ false) }
     {
@@ -129,7 +129,7 @@ impl Waiters {
         if slept { Some(self.announce()) } else { None }
     }
 
-    /// Looks whether a thread has announced itself, after a release.
+    /// Looks after a release whether a thread has announced itself.
     pub(crate) fn look(&self, given_back: GivenBack) -> Option<Marked> {
         let GivenBack { marker: () } = given_back;
         let mark = self.mark.load(SeqCst);
@@ -140,7 +140,7 @@ impl Waiters {
         }
     }
 
-    /// Takes the mark away, if no other release did.
+    /// Clears the mark, if no other release did.
     pub(crate) fn clear(&self, marked: Marked) -> Option<Cleared> {
         let Marked { mark } = marked;
         let next = mark.wrapping_add(1);

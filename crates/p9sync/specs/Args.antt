@@ -15,27 +15,27 @@ use Rattle.p9sync.specs.ReportText.{report_line}
 use Rattle.scripts.specs.Schedule.{schedule_told}
 use Rattle.crew.specs.Threads.{IsReportOf}
 
--- the status of a run that ended so
+-- the status of a run with this result
 abbrev pub status_of : Result (Unit {0}) Fault → ℕ
 status_of (Ok done) = GOOD
 status_of (Err fault) = FAULT
 
--- the same of a run on threads, which says whether it was in order
+-- the same for a run on threads, which says whether it was in order
 abbrev pub status_of_threads : Result Bool Fault → ℕ
 status_of_threads (Ok true) = GOOD
 status_of_threads (Ok false) = FAULT
 status_of_threads (Err fault) = FAULT
 
--- A run that was to say this ended with this status. With the status of a good run all was written
--- and no line is at fault; with the status of a fault all was written and a line is at fault, or a
--- prefix was written.
+-- A run of a script that says this ended with this status. With the status of a good run, all was
+-- written and no line is at fault. With the status of a fault, all was written and a line is at
+-- fault, or a prefix was written.
 pub record EndsRun (told : Transcript) (old new : Option (List ℕ)) (status : ℕ) : Type 0 where
   pub outcome : Result (Unit {0}) Fault
   pub written : WritesTranscript told old new outcome
   pub status_is : status ≡ status_of outcome
 
 -- A run on threads ended with this status. With the status of a good run its report was in order
--- and was written whole; with the status of a fault a front of a report was written, or all of one.
+-- and was written whole; with the status of a fault a prefix of a report was written, or all of it.
 pub record EndsThreads (opts : ThreadsOpts) (old new : Option (List ℕ)) (status : ℕ) : Type 0 where
   pub report : Report
   pub is_report : IsReportOf opts report

@@ -1,4 +1,4 @@
--- What a run on threads says that it read.
+-- What a run on threads reports that it read.
 use Rattle.std.specs.Prelude.{ℕ, List, [], ◌∷◌, ◌++◌, if◌then◌else◌, codes}
 use Rattle.std.specs.Fmt.{decimal}
 use Rattle.scripts.specs.declared.lines.TheConstants.{LINE_FEED}

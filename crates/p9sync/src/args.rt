@@ -34,7 +34,7 @@ pub const GOOD: u8 = 0;
 /// The status of a run that ended in a fault.
 pub const FAULT: u8 = 1;
 
-/// The status of a command line that was refused, a request for help included.
+/// The status of a refused command line, also where help was asked for.
 pub const REFUSED: u8 = 2;
 
 /// Each status, by its number.
@@ -48,8 +48,8 @@ pub fn numbers_of_the_program()
 const USAGE: &str = "usage: p9sync pipe | replay | threads --writers W --writes K --size S";
 
 /// The whole program on its words, its name first. It reads a script from `reader`, writes the
-/// answers to `out`, and says on `err` why it failed; a failed write to `err` changes nothing.
-/// It answers the status: 0 where all went well, 1 for a fault, 2 for a refused command line.
+/// answers to `out`, and writes to `err` why it failed; a failed write to `err` changes nothing. It
+/// returns the status: 0 where all went well, 1 for a fault, 2 for a refused command line.
 pub fn run_args<T: Threads + Wait + Sync, S: AsStr, R: Read, O: Write, E: Write>(
     alloc: Global,
     rt: &T,
@@ -111,7 +111,7 @@ pub fn end<E: Write>(outcome: Result<(), Fault>, err: &mut E) -> u8
     }
 }
 
-/// Runs writers and a reader, and says what was read.
+/// Runs writers and a reader, and writes what was read.
 fn tell_threads<T: Threads + Wait + Sync, O: Write, E: Write>(
     alloc: Global,
     rt: &T,
@@ -125,7 +125,7 @@ fn tell_threads<T: Threads + Wait + Sync, O: Write, E: Write>(
     end_threads(write_threads(alloc, rt, opts, out), err)
 }
 
-/// Ends a run on threads. What is out of order ends as a fault does, and `err` says nothing of it.
+/// Ends a run on threads. A run out of order ends as a fault does, and `err` says nothing of it.
 fn end_threads<E: Write>(outcome: Result<bool, Fault>, err: &mut E) -> u8
     ensures status { result ≡ status_of_threads outcome }
     ensures silent { IsOk outcome → Keeps (E.contents err.old) (E.contents err.new) }
@@ -137,7 +137,7 @@ fn end_threads<E: Write>(outcome: Result<bool, Fault>, err: &mut E) -> u8
     }
 }
 
-/// Runs writers and a reader, writes what was read, and says whether it was in order.
+/// Runs writers and a reader, writes what was read, and returns whether it was in order.
 fn write_threads<T: Threads + Wait + Sync, O: Write>(
     alloc: Global,
     rt: &T,

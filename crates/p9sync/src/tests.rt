@@ -1,15 +1,16 @@
-//! Runs of each command, on the call that the program's `main` makes: what they answer, what they
-//! say of a fault, and their status.
+//! Runs of each command, by the call that the program's `main` makes: their answers, what they
+//! write of a fault, and their status.
 use crate::args::run_args;
 use std::alloc::{AllocError, Global};
 use std::process::Abort;
 use std::sync::Wait;
 use std::thread::Threads;
 
-/// A text, and how often it stands there.
+/// A text, and how often it is repeated.
 type Part = (&'static str, usize);
 
-/// A script, its answers, and what its run says of a fault. A run that says nothing ends well.
+/// A script, its answers, and what its run writes of a fault. A run that writes nothing of a fault
+/// ends well.
 type Row = (&'static [Part], &'static [Part], &'static str);
 
 const USAGE: &str = "usage: p9sync pipe | replay | threads --writers W --writes K --size S\n";
@@ -33,7 +34,7 @@ fn text_of(rt: &impl Abort, alloc: Global, parts: &[Part]) -> Vec<u8> {
     }
 }
 
-/// Runs the program on these words, and compares all that it leaves.
+/// Runs the program on these words, and compares all its output and its status.
 fn runs<T: Threads + Wait + Sync + Abort>(
     rt: &T,
     alloc: Global,
@@ -396,7 +397,7 @@ fn schedules_are_answered(rt: HostRuntime) {
     plays(&rt, rt.alloc(), "replay", &REPLAY_ROWS);
 }
 
-/// The words of a command line, and the status, the answers and what is said of a refusal.
+/// The words of a command line, and the status, the answers and what is written of a refusal.
 type Line = (&'static [&'static str], u8, &'static str, &'static str);
 
 const LINES: [Line; 10] = [

@@ -29,7 +29,7 @@ pub record GetsBlock (key : Key) (row : Row) (old new : Calling) : Type 0 where
   pub woken : WakesWith row (number_of old.seat.taker.rest left) old.process
       new.process
 
--- one request of it, by what it was told; the block of the caller is the one that it got, and else
+-- one request of such a read, by its answer; the caller's block is the block that it got, and else
 -- as it was
 abbrev pub AsksForBlock : Key → Row → Calling → Reply ReadAnswer → Calling → Type 0
 AsksForBlock key row old (reply.Done (read.Got count)) new =
@@ -40,7 +40,8 @@ AsksForBlock key row old (reply.Wait number) new =
     × IsFreshTake key old.seat.taker.account new.seat.taker.account (take_answer.NotYet number)
 AsksForBlock key row old (reply.Refused why) new = ⊥
 
--- What it did, by its answer, in either mode. Own: one by a process of another kernel does nothing.
+-- What such a read did, by its answer, in either mode. Own: a read by a process of another kernel
+-- does nothing.
 abbrev pub ReadsBlock : Key → Row → Calling → Result ReadAnswer Fault → Calling → Type 0
 ReadsBlock key row old (Err fault.NoRendez) new = new ≡ old
 ReadsBlock key row old answer new =

@@ -1,4 +1,4 @@
--- What each call of an end adds to what was read and written.
+-- What each call of an end adds to the parts that were read and the writes that were made.
 use Rattle.std.specs.Prelude.{◌≡◌, ◌≢◌, ◌+◌, ◌++◌, ℕ, List, [], length, Result}
 use Rattle.histories.specs.declared.account.Account.{Account}
 use Rattle.sync_base.specs.declared.fault.Fault.{Fault}
@@ -34,7 +34,7 @@ pub record GetsOne (key : Key) (row : Row) (old : Calling) (count : ℕ) (new : 
   pub woken : WakesWith row (number_of old.seat.taker.rest part) old.process
       new.process
 
--- and one that got none found nothing
+-- and a try that got no bytes found nothing
 abbrev pub ReadsOneOrNone : Key → Row → Calling → Reply ReadAnswer → Calling → Type 0
 ReadsOneOrNone key row old (reply.Done (read.Got count)) new = GetsOne key row old count new
 ReadsOneOrNone key row old (reply.Done read.End) new = FindsNone key End old new
@@ -47,7 +47,7 @@ MessagesAreReadOneByOne =
     (key : Key) (row : Row) (old : Calling) (told : Reply ReadAnswer) (new : Calling)
     → row.mode ≡ Message → AsksForBytes key row old told new → ReadsOneOrNone key row old told new
 
--- each call of a read end is such steps, and what it got is what stands in its buffer
+-- each call of a read end is such steps, and the bytes that it got are in its buffer
 abbrev pub ReadsAreSteps : Type 0
 ReadsAreSteps =
     (key : Key) (row : Row) (old : Calling) (answer : Result ReadAnswer Fault) (new : Calling)
@@ -76,12 +76,12 @@ HangupsAreSteps =
     → Enters key (Hung 0) old.account new.account → new.rest ≡ old.rest
     → (parts : List Part) → IsOfSteps key AddsNone old parts new
 
--- what such steps make of a read end of a new pipe has read just what it took out
+-- a read end of a new pipe, after such steps, has read just what it took out
 abbrev pub WhatIsReadIsRight : Type 0
 WhatIsReadIsRight =
     (key : Key) (reading : Reading) → IsMade key reading → IsReading key reading
 
--- a new write end has written nothing; a write adds its bytes exactly where it answers a number;
+-- a new write end has written nothing; a write adds its bytes if and only if it answers a number;
 -- and a hangup adds nothing
 abbrev pub NewEndsHaveWrittenNothing : Type 0
 NewEndsHaveWrittenNothing = (writer : ℕ) → HasWritten (new_account (writer + 1)) writer []

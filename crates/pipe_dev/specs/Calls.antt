@@ -1,5 +1,5 @@
--- What a read and a write have in common: what it does where its sleep fails, by what it is
--- answered, and what one is that was run.
+-- What reads and writes have in common: what a call does where its sleep fails, its effect by its
+-- answer, and the same for a call that a runner ran.
 use Rattle.std.specs.Prelude.{◌≡◌, ⊤, Option, Some, None, Result, Err}
 use Rattle.histories.specs.History.{IsPast}
 use Rattle.sync_base.specs.declared.fault.Fault.{Fault}
@@ -9,7 +9,7 @@ use Rattle.waiting.specs.declared.call.Reply.{Reply}
 use Rattle.waiting.specs.Runners.{ComesToSame}
 use Rattle.waiting.specs.Waiting.{Promise, Point}
 
--- where a sleep of a call failed it asks nothing more, and comes to nothing
+-- where a sleep of a call failed it asks nothing more, and has no result
 abbrev pub GivesUp : {Seat Out : Type 0} → Seat → Option Out → Seat → Type 0
 GivesUp old (Some out) new = ⊥
 GivesUp old None new = new ≡ old
@@ -27,8 +27,8 @@ IsAsked (Err fault.NoRendez) = ⊥
 IsAsked (Err fault.Memory) = ⊥
 IsAsked answer = ⊤
 
--- Of its direction a run did what such a call does that waits as long as it takes, and it comes to
--- the same.
+-- A run did to its direction what such a call that waits as long as it takes does, with the same
+-- answer or none.
 pub record RunsAs {Seat Out : Type 0} (Does : Result Out Fault → Point Seat → Type 0)
     (answer : Result Out Fault) (new : Point Seat) : Type 0 where
   pub told : Result Out Fault

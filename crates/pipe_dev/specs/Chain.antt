@@ -1,5 +1,5 @@
--- What the calls of the ends make, one after the other: of a read end what it has read, and of a
--- write end what it has written.
+-- What the calls of the ends add up to, one after the other: what a read end has read, and what a
+-- write end has written.
 use Rattle.std.specs.Prelude.{◌≡◌, ◌⊎◌, ◌+◌, ◌<◌, ℕ, ⊤, List, [], ◌∷◌, ◌++◌, take, IsTrue}
 use Rattle.std.specs.Prelude.{Result, Ok, Err}
 use Rattle.std.specs.List.{AllByRecursion}
@@ -56,20 +56,20 @@ pub record AddsNothing (key : Key) (old new : Reading) : Type 0 where
 abbrev pub ReadStep : Key → Reading → Reading → Type 0
 ReadStep key old new = AddsPart key old new ⊎ AddsNothing key old new
 
--- calls made this of a read end of a new pipe, whose writes are numbered from 1 on
+-- calls of a read end of a new pipe led to this state; the writes are numbered from 1 on
 pub record IsMade (key : Key) (reading : Reading) : Type 0 where
   pub first : key.first ≡ 0
   pub times : ℕ
   pub steps : Rounds (ReadStep key) times (first_reading (reader_account key.writers)) reading
 
--- one part more, whose bytes are these
+-- one more part, with these bytes
 pub record AddsOne (bytes : List ℕ) (parts parts' : List Part) : Type 0 where
   pub part : Part
   pub bytes_are : part.bytes ≡ bytes
   pub parts_are : parts' ≡ part ∷ parts
 
--- Some parts more, whose bytes are these, one part after the other. Own: a stream read adds them;
--- a part of no bytes is of an empty write that was passed.
+-- Some more parts, with these bytes, one part after the other. Own: a stream read adds them; a part
+-- of no bytes is of an empty write that was passed.
 pub record AddsParts (bytes : List ℕ) (parts parts' : List Part) : Type 0 where
   pub added : List Part
   pub bytes_are : bytes_of added ≡ bytes
@@ -78,13 +78,14 @@ pub record AddsParts (bytes : List ℕ) (parts parts' : List Part) : Type 0 wher
 abbrev pub AddsNone : List Part → List Part → Type 0
 AddsNone parts parts' = parts' ≡ parts
 
--- What a call that gave bytes adds to the parts: in message mode one, and in stream mode those of
--- its bytes.
+-- What a call that gave bytes adds to the parts: one part in message mode, and in stream mode the
+-- parts of its bytes.
 abbrev pub AddsBytes : Mode → List ℕ → List Part → List Part → Type 0
 AddsBytes Message bytes parts parts' = AddsOne bytes parts parts'
 AddsBytes Stream bytes parts parts' = AddsParts bytes parts parts'
 
--- and one that gave none: nothing, and in stream mode the empty writes that it passed
+-- and what a call that gave no bytes adds: nothing, or in stream mode the empty writes that it
+-- passed
 abbrev pub AddsNoByte : Mode → List Part → List Part → Type 0
 AddsNoByte Message parts parts' = AddsNone parts parts'
 AddsNoByte Stream parts parts' = AddsParts [] parts parts'
@@ -99,7 +100,7 @@ abbrev pub AddsTry : Mode → TryAnswer → List ℕ → List Part → List Part
 AddsTry mode (try.Got count) buffer' = AddsBytes mode (take count buffer')
 AddsTry mode answer buffer' = AddsNoByte mode
 
--- a call is such steps, which add this to the parts
+-- a call is such steps, which together add this to the parts
 pub record IsOfSteps (key : Key) (Adds : List Part → List Part → Type 0)
     (old : Taker) (parts : List Part) (new : Taker) : Type 0 where
   pub parts' : List Part
@@ -109,13 +110,14 @@ pub record IsOfSteps (key : Key) (Adds : List Part → List Part → Type 0)
 
 -- ---- a write end
 
--- the seat of this writer knows just these of its writes as accepted, the oldest first
+-- as far as the seat of this writer knows, just these of its writes were accepted, the oldest first
 pub record HasWritten (account : Account Entry) (writer : ℕ) (blocks : List (List ℕ)) : Type 0 where
   pub own : IsTrue (has_number account.shares (writer + 1))
   pub are : AllByRecursion
       (λ share. share.number ≡ writer + 1 → accepted_in share.mine ≡ blocks) account.shares
 
--- what an answer adds to them: the bytes of the write where it has a number, and else nothing
+-- what an answer adds to them: the bytes of the write where the answer is a number, and else
+-- nothing
 abbrev pub written_by : Result ℕ Fault → List ℕ → List (List ℕ)
 written_by (Ok number) block = block ∷ []
 written_by (Err why) block = []

@@ -14,15 +14,15 @@ use Rattle.pipe_dev.specs.declared.state.WriteState.{WriteState}
 use Rattle.pipe_dev.specs.Parts.{Part}
 use Rattle.pipe_dev.specs.Reading.{Reading, IsRest}
 
--- a read end: its direction, the Rendez of it, what its seat at the queue knows, and what is left
--- of a write that was begun
+-- a read end: its direction and Rendez, what its seat at the queue knows, and what is left of a
+-- write that was begun
 pub record ReadSide : Type 0 where
   pub queue : Queue
   pub row : Row
   pub account : Account Entry
   pub rest : Option Part
 
--- a write end: its direction, the Rendez of it, which writer it is, and what its seat knows
+-- a write end: its direction and Rendez, the number of its writer, and what its seat knows
 pub record WriteSide : Type 0 where
   pub queue : Queue
   pub row : Row
@@ -38,8 +38,8 @@ pub record IsRowOf (queue : Queue) (row : Row) : Type 0 where
   pub writers : row.writers ≡ (key_of queue).writers
   pub first : (key_of queue).first ≡ 0
 
--- the state of a read end: the reader's seat, which gave the writers theirs, and what is left of a
--- write that was begun
+-- the state of a read end: the reader's seat, which gave the writers their numbers, and what is
+-- left of a write that was begun
 pub record IsReadState (queue : Queue) (row : Row) (state : ReadState) : Type 0 where
   pub row_is : IsRowOf queue row
   pub seat : IsTakeSeatOf queue state.seat
@@ -47,7 +47,7 @@ pub record IsReadState (queue : Queue) (row : Row) (state : ReadState) : Type 0 
   pub gave : (take_account state.seat).gave ≡ numbers_from 1 row.writers
   pub some_left : IsRest state.rest
 
--- the seat of a writer, which gave none
+-- the seat of a writer, which gave no number
 pub record IsWriteSeat (queue : Queue) (row : Row) (seat : PutSeat) : Type 0 where
   pub row_is : IsRowOf queue row
   pub seat_is : IsPutSeatOf queue seat
@@ -55,14 +55,14 @@ pub record IsWriteSeat (queue : Queue) (row : Row) (seat : PutSeat) : Type 0 whe
   pub gave : (put_account seat).gave ≡ []
 
 -- the state of a write end: the seat of its writer, and this block, which the queue has not taken;
--- there is none between two calls
+-- there is no such block between two calls
 pub record IsWriteState (queue : Queue) (row : Row) (writer : ℕ) (block : Option (List ℕ))
     (state : WriteState) : Type 0 where
   pub seat : IsWriteSeat queue row state.seat
   pub writer_is : state.seat.writer ≡ writer
   pub block_is : state.block ≡ block
 
--- both are of one direction
+-- both ends are of one direction
 pub record AreOfOne (read : ReadSide) (write : WriteSide) : Type 0 where
   pub queue : write.queue ≡ read.queue
   pub row : write.row ≡ read.row
@@ -72,7 +72,7 @@ pub record AreAllEnds (read : ReadSide) (writes : List WriteSide) : Type 0 where
   pub one : AllByRecursion (AreOfOne read) writes
   pub order : map (λ write. write.writer) writes ≡ numbers_from 0 read.row.writers
 
--- a call leaves an end where it is
+-- a call leaves an end at its direction and Rendez
 pub record IsSameReadEnd (old new : ReadSide) : Type 0 where
   pub queue : new.queue ≡ old.queue
   pub row : new.row ≡ old.row

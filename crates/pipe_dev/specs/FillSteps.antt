@@ -1,4 +1,4 @@
--- What the steps of filling a buffer come to.
+-- The results of the steps of filling a buffer.
 use Rattle.std.specs.Prelude.{◌≡◌, ℕ, List, Option}
 use Rattle.block_queue.specs.declared.view.Key.{Key}
 use Rattle.block_queue.specs.declared.entry.Entry.TheVariants as entry
@@ -25,7 +25,7 @@ lending_with state buffer = record { taker = taker_with state; buffer = buffer }
 abbrev pub block_lending : ReadState → Lending
 block_lending state = lending_with state state.block.items
 
--- one part was read, with the number of its write where that was taken out for it
+-- one part was read, with the number of its write if the write was taken out for it
 pub record GivesPart (key : Key) (old : Lending) (count : ℕ) (number : Option ℕ)
     (new : Lending) : Type 0 where
   pub part : Part

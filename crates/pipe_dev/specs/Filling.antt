@@ -1,4 +1,4 @@
--- How a read fills its buffer, part by part, after pipe(3) and read(2); in which mode is a value.
+-- How a read fills its buffer, part by part, after pipe(3) and read(2); the mode is a value.
 use Rattle.std.specs.Prelude.{◌≡◌, ◌⊎◌, ◌+◌, ◌-◌, ◌++◌, ℕ, nat_lt, Bool, true, false}
 use Rattle.std.specs.Prelude.{List, [], ◌∷◌, length, drop, Option, Some, None}
 use Rattle.histories.specs.declared.account.Account.{Account}
@@ -28,14 +28,14 @@ pub record IsLeft (old : Taker) (left : Part) (new : Taker) : Type 0 where
   pub left_is : old.rest ≡ Some left
   pub account : new.account ≡ old.account
 
--- no write was begun: the next one was taken out, whole and with its number
+-- no write was begun: the next write was taken out, whole and with its number
 pub record IsTakenOut (key : Key) (old : Taker) (left : Part) (new : Taker) : Type 0 where
   pub none_left : old.rest ≡ None
   pub taken : Enters key (entry.Block left.writer left.bytes (left.place + 1))
       old.account new.account
 
--- A part was read, for which there was so much room: of what is left of the write that was begun,
--- or of the next one. What is left of it after the part is kept.
+-- A part was read, for which there was this much room: of what is left of the write that was begun,
+-- or of the next write. What is left of it after the part is kept.
 pub record TakesPart (key : Key) (room : ℕ) (old : Taker) (part : Part) (new : Taker) :
     Type 0 where
   pub left : Part
@@ -49,20 +49,20 @@ pub record FindsNothing (key : Key) (found : Entry) (old new : Taker) : Type 0 w
   pub entered : Enters key found old.account new.account
   pub rest : new.rest ≡ None
 
--- The next write is not there yet. A reader that knew of the hangup is told so only while a write
--- is left.
+-- The next write is not there yet. A reader that knew of the hangup gets this answer only while a
+-- write is left.
 pub record FindsNotThere (key : Key) (number : ℕ) (old new : Taker) : Type 0 where
   pub nothing : FindsNothing key (entry.NotYet number) old new
   pub fresh : IsFreshTake key old.account new.account (take_answer.NotYet number)
 
 -- ---- part by part
 
--- how far a read goes: in which mode, and for how many bytes its buffer has room
+-- how far a read goes: its mode, and for how many bytes its buffer has room
 pub record Extent : Type 0 where
   pub mode : Mode
   pub room : ℕ
 
--- what a read has come to: its end, and the parts that it read, the newest first
+-- what a read has done: its end, and the parts that it read, the newest first
 pub record Filling : Type 0 where
   pub taker : Taker
   pub parts : List Part
@@ -74,20 +74,20 @@ abbrev pub has_none : List Part → Bool
 has_none [] = true
 has_none (part ∷ parts) = false
 
--- Whether a read with these parts goes on. After pipe(3): a message ends it, one of no bytes too.
--- Own: in stream mode it goes on while its buffer has room.
+-- Whether a read with these parts goes on. After pipe(3): a message ends it, an empty one too. Own:
+-- in stream mode it goes on while its buffer has room.
 abbrev pub goes_further : Extent → List Part → Bool
 goes_further extent parts =
     by_mode extent.mode (has_none parts) (nat_lt (length (bytes_of parts)) extent.room)
 
--- it went on, and read a part more into the room that was left
+-- it went on, and read one more part into the room that was left
 pub record TakesMore (key : Key) (extent : Extent) (old new : Filling) : Type 0 where
   pub further : goes_further extent old.parts ≡ true
   pub part : Part
   pub taken : TakesPart key (extent.room - length (bytes_of old.parts)) old.taker part new.taker
   pub parts : new.parts ≡ part ∷ old.parts
 
--- why a read went no further: it had enough, or it went on and a take found nothing
+-- why a read stopped: it had enough, or it went on and a take found nothing
 abbrev pub StopsAt : Key → Extent → Stop → Filling → Taker → Type 0
 StopsAt key extent stop.Enough old new =
     (goes_further extent old.parts ≡ false) × (new ≡ old.taker)
@@ -103,12 +103,13 @@ pub record Lending : Type 0 where
   pub taker : Taker
   pub buffer : List ℕ
 
--- the buffer has these bytes in front, and is as it was after them
+-- the buffer begins with these bytes, and is as it was after them
 pub record IsFilledBy (bytes buffer buffer' : List ℕ) (count : ℕ) : Type 0 where
   pub count_is : count ≡ length bytes
   pub bytes_are : buffer' ≡ bytes ++ drop count buffer
 
--- part by part, up to where it stopped; the buffer has the bytes of the parts, in their order
+-- the read went part by part, up to where it stopped; the buffer has the bytes of the parts, in
+-- their order
 pub record FillsUp (key : Key) (mode : Mode) (old : Lending) (came : ReadOutcome) (new : Lending) :
     Type 0 where
   pub times : ℕ
@@ -121,12 +122,12 @@ pub record FillsUp (key : Key) (mode : Mode) (old : Lending) (came : ReadOutcome
 
 -- ---- the numbers of what was taken out
 
--- a part of a write that was taken out for it has the number of that write
+-- the number of a part's write, if the write was taken out for the part
 abbrev pub number_of : Option Part → Part → Option ℕ
 number_of None part = Some (part.place + 1)
 number_of (Some left) part = None
 
--- The number of the last write that a read took out, if it took any. Its first part may be of a
+-- The number of the last write that a read took out, if it took any out. Its first part may be of a
 -- write that was begun before.
 abbrev pub last_number : Option Part → List Part → Option ℕ
 last_number begun [] = None

@@ -47,9 +47,9 @@ accepted_in (entry ∷ past) = accepted_in past
 abbrev pub left_state : Key → List Entry → PipeState
 left_state key history = (queue_after key history).pipe
 
--- All ends of a direction are given back: there is one legal history, which the read end saw in
--- part and of whose blocks it read each, with just the entries of each writer; and what is held is
--- what that history leaves.
+-- All ends of a direction are given back: there is one legal history, with just the entries of each
+-- writer; the read end saw a part of it, and has read each block taken out in it; and what is held
+-- is what that history leaves.
 pub record Finishes (key : Key) (reading : Reading) (writers : List (Share Entry))
     (held : Holdings) : Type 0 where
   pub history : List Entry
@@ -67,8 +67,8 @@ pub record Finishes (key : Key) (reading : Reading) (writers : List (Share Entry
 abbrev pub HaveSeen : List Entry → List WriteSide → Type 0
 HaveSeen history writes = AllByRecursion (λ write. IsPast write.account.seen history) writes
 
--- all ends of a direction are given back, and the history is one of which the write ends too have
--- seen pasts
+-- all ends of a direction are given back, and what each write end has seen is a past of the history
+-- too
 pub record FinishesEnds (read : ReadSide) (parts : List Part) (writes : List WriteSide)
     (held : Held) : Type 0 where
   pub finishes : Finishes (key_of read.queue) (reading_of read parts) (shares_of writes)

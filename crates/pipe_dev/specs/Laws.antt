@@ -1,4 +1,4 @@
--- The headline: each write is read whole and once, and none is accepted after a hangup.
+-- The headline: each write is read whole and once, and no write is accepted after a hangup.
 use Rattle.std.specs.Prelude.{◌≡◌, ◌+◌, ℕ, ⊤, List, [], ◌∷◌, ◌++◌, reverse}
 use Rattle.std.specs.List.{AllByRecursion}
 use Rattle.histories.specs.declared.account.Share.{Share}
@@ -18,7 +18,7 @@ use Rattle.pipe_dev.specs.Parts.{Part, pieces_of, continued, whole_from, bytes_b
 use Rattle.pipe_dev.specs.Reading.{Reading, IsReading, seen_state}
 
 -- what was read from the end, continued by the rest that it holds, and then the writes that it
--- holds: the oldest first
+-- holds, the oldest first
 abbrev pub read_and_held : Key → Reading → Holdings → List Part
 read_and_held key reading held =
     reverse (pieces_of (continued reading.rest reading.parts))
@@ -39,7 +39,7 @@ EachShareIsReadWholeAndOnce =
     → Finishes key reading writers held
     → AllByRecursion (IsAllOfWriter (read_and_held key reading held)) writers
 
--- for a write end these are the bytes of the writes that it was answered with a number, in order
+-- for a write end these are the bytes of the writes that were answered with a number, in order
 abbrev pub IsAllWritten : List Part → WriteSide → Type 0
 IsAllWritten pieces write =
     (blocks : List (List ℕ)) → HasWritten write.account write.writer blocks
@@ -51,8 +51,8 @@ found_at read parts held =
     read_and_held (key_of read.queue) (reading_of read parts) (holdings_of held)
 
 -- Whatever calls were made of the ends of a direction: what was read from it, followed by what it
--- still holds, is for each writer the bytes of the writes that were accepted of it, in its order,
--- each write whole, contiguous and once.
+-- still holds, is for each writer the bytes of its accepted writes, in its order, each write whole,
+-- contiguous and once.
 abbrev pub EachWriteIsReadWholeAndOnce : Type 0
 EachWriteIsReadWholeAndOnce =
     (read : ReadSide) (parts : List Part) (writes : List WriteSide) (held : Held)
@@ -66,14 +66,14 @@ IsNeverHung [] = ⊤
 IsNeverHung (Hung seat ∷ past) = ⊥
 IsNeverHung (entry ∷ past) = IsNeverHung past
 
--- after each write that was accepted stands no hangup
+-- no hangup comes before a write that was accepted
 abbrev pub NoWriteAfterHangup : List Entry → Type 0
 NoWriteAfterHangup [] = ⊤
 NoWriteAfterHangup (Taken writer block number ∷ past) =
     IsNeverHung past × NoWriteAfterHangup past
 NoWriteAfterHangup (entry ∷ past) = NoWriteAfterHangup past
 
--- of every legal history of a direction
+-- this holds of every legal history of a direction
 abbrev pub NoneIsAcceptedAfterHangup : Type 0
 NoneIsAcceptedAfterHangup =
     (key : Key) (history : List Entry)

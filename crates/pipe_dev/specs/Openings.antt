@@ -20,20 +20,20 @@ use Rattle.pipe_dev.specs.Ends.{ReadSide, WriteSide, IsRowOf, IsReadState, IsWri
 use Rattle.pipe_dev.specs.Ends.{AreAllEnds}
 use Rattle.pipe_dev.specs.Rendezes.{OwnsRow}
 
--- so many writes may stand in each direction, and each has so many writers
+-- each direction may have this many writes waiting, and has this many writers
 abbrev pub key_for : ℕ → ℕ → Key
 key_for limit writers = record { limit = limit; first = 0; writers = writers }
 
--- how many Rendez a pipe takes: of each direction one for the reader, and one for each writer
+-- how many Rendez a pipe takes: for each direction one for the reader, and one for each writer
 abbrev pub rendez_for : ℕ → ℕ
 rendez_for writers = 2 * (1 + writers)
 
--- the seat of a writer is one of the queue's, and was given to no other
+-- the seat of a writer is one of the queue's, and is not used yet
 pub record IsSeatToGive (queue : Queue) (row : Row) (seat : PutSeat) : Type 0 where
   pub seat_is : IsWriteSeat queue row seat
   pub unused : put_account seat ≡ new_account (seat.writer + 1)
 
--- what the ends of this direction are made of
+-- what the ends of this direction are made from
 pub record IsDirectionStartOf (queue : Queue) (start : DirectionStart) : Type 0 where
   pub row_is : IsRowOf queue start.row
   pub read : IsReadState queue start.row start.read
@@ -50,7 +50,7 @@ pub record IsStartOf (pipe : Pipe) (start : PipeStart) : Type 0 where
   pub back : IsDirectionStartOf pipe.back start.back
 
 -- a new pipe of this size and mode, with its Rendez in a row from this number on: first those of
--- the one direction, and then those of the other
+-- one direction, and then those of the other
 pub record OpensIn (mode : Mode) (limit writers first : ℕ) (opened : Opened) : Type 0 where
   pub there_key : key_of opened.pipe.there ≡ key_for limit writers
   pub back_key : key_of opened.pipe.back ≡ key_for limit writers
@@ -78,7 +78,7 @@ pub record IsNewWriteEnd (queue : Queue) (row : Row) (write : WriteSide) : Type 
   pub row_is : write.row ≡ row
   pub unused : write.account ≡ new_account (write.writer + 1)
 
--- the ends of a new direction: nothing was called, and these are all
+-- the ends of a new direction: nothing was called, and these are all its ends
 pub record AreNewEnds (queue : Queue) (row : Row) (read : ReadSide) (writes : List WriteSide) :
     Type 0 where
   pub queue_is : read.queue ≡ queue
@@ -88,16 +88,16 @@ pub record AreNewEnds (queue : Queue) (row : Row) (read : ReadSide) (writes : Li
   pub unwritten : AllByRecursion (IsNewWriteEnd queue row) writes
   pub all : AreAllEnds read writes
 
--- ---- whose pipe it is
+-- ---- the kernel of a pipe
 
 -- this kernel has each Rendez of these ends
 pub record HasEachRendez (words : Words) (read : ReadSide) (writes : List WriteSide) : Type 0 where
   pub reader : OwnsRow words read.row
   pub writers : AllByRecursion (λ write. OwnsRow words write.row) writes
 
--- Own. The kernel whose roster made a pipe has each Rendez of its ends. A read or a write is
--- answered NoRendez only where the process's kernel has not (`no_rendez`), so a process of this
--- kernel never is.
+-- Own. The kernel whose roster made a pipe has each Rendez of its ends. A read or a write gets
+-- NoRendez only where the process's kernel does not have them all (`no_rendez`), so a process of
+-- this kernel never gets it.
 abbrev pub OwnKernelHasEachRendez : Type 0
 OwnKernelHasEachRendez =
     (words : Words) (opened : Opened) (first second : ReadSide) (firsts seconds : List WriteSide)

@@ -5,14 +5,14 @@ use Rattle.std.specs.Prelude.{List, [], ◌∷◌, ◌++◌, length, take, drop,
 use Rattle.std.specs.List.{filter}
 use Rattle.sync_base.specs.Write.{Write}
 
--- some bytes of a write: the place of the write among those that were accepted, counted from 0, and
--- who wrote it
+-- some bytes of a write: the place of the write among the accepted writes, counted from 0, and its
+-- writer
 pub record Part : Type 0 where
   pub place : ℕ
   pub writer : ℕ
   pub bytes : List ℕ
 
--- After pipe(3). What a read of at most so many bytes gives of what is left of a write, and what
+-- After pipe(3). What a read of at most this many bytes gives of what is left of a write, and what
 -- it leaves: a write that is used up is read whole.
 abbrev pub part_of : ℕ → Part → Part
 part_of most left = record left { bytes = take most left.bytes }
@@ -26,7 +26,7 @@ abbrev pub is_empty : List ℕ → Bool
 is_empty [] = true
 is_empty (byte ∷ bytes) = false
 
--- The part goes on where the piece ended: both are of one write. An empty part goes on with none:
+-- The part goes on where the piece ended: both are of one write. An empty part continues no piece:
 -- it is all of a write that has no bytes.
 abbrev pub goes_on : Part → Part → Bool
 goes_on piece part =
@@ -37,7 +37,7 @@ goes_on piece part =
 abbrev pub longer_by : Part → Part → Part
 longer_by piece part = record piece { bytes = piece.bytes ++ part.bytes }
 
--- one part more: the latest piece goes on, or another begins
+-- one more part: it continues the latest piece, or begins another
 abbrev pub with_part : Part → List Part → List Part
 with_part part [] = part ∷ []
 with_part part (piece ∷ past) =

@@ -38,15 +38,16 @@ calling side proc buffer =
 abbrev pub came_to : ℕ → Stop → ReadOutcome
 came_to count why = record { count = count; stop = why }
 
--- One try, in the mode of the direction. It filled the buffer part by part, up to where it stopped;
--- and where it took writes out it then woke each writer, with the number of the last of them.
+-- One try, in the mode of the direction. It filled the buffer part by part, up to where it stopped.
+-- Where it took writes out, it then woke each writer, with the number of the last of them.
 pub record TriesOn (key : Key) (row : Row) (old : Calling) (came : ReadOutcome) (new : Calling) :
     Type 0 where
   pub fills : FillsUp key row.mode old.seat came new.seat
   pub woken : WakesWith row (last_number old.seat.taker.rest fills.filling.parts) old.process
       new.process
 
--- whether a try that came so far is answered Got: it had enough, or it gave a byte at least
+-- whether the answer of a try that came this far is Got: it had enough, or it gave at least one
+-- byte
 abbrev pub is_got_by : Stop → Bool → Bool
 is_got_by stop.Enough some = true
 is_got_by (stop.NotYet number) some = some
@@ -55,14 +56,14 @@ is_got_by stop.End some = some
 abbrev pub is_got : ReadOutcome → Bool
 is_got came = is_got_by came.stop (nat_lt 0 came.count)
 
--- Got: so many bytes
+-- Got: this many bytes
 pub record GivesBytes (key : Key) (row : Row) (old : Calling) (count : ℕ) (new : Calling) :
     Type 0 where
   pub why : Stop
   pub tried : TriesOn key row old (came_to count why) new
   pub got : is_got (came_to count why) ≡ true
 
--- a try that was answered NotYet, with some number
+-- a try with the answer NotYet, and some number
 pub record IsNotYet (key : Key) (row : Row) (old new : Calling) : Type 0 where
   pub number : ℕ
   pub tried : TriesOn key row old (came_to 0 (stop.NotYet number)) new
@@ -79,8 +80,8 @@ Tries key row old (try.Got count) new = GivesBytes key row old count new
 Tries key row old try.NotYet new = IsNotYet key row old new
 Tries key row old try.End new = TriesOn key row old (came_to 0 stop.End) new
 
--- One request of a read that waits, by what it was told: a try. One that is told to wait gave no
--- byte, and in stream mode it has passed the empty writes that it met.
+-- One request of a read that waits, by its answer: a try. A try with the answer Wait gave no byte,
+-- and in stream mode it has passed the empty writes that it met.
 abbrev pub AsksForBytes : Key → Row → Calling → Reply ReadAnswer → Calling → Type 0
 AsksForBytes key row old (reply.Done (read.Got count)) new = Tries key row old (try.Got count) new
 AsksForBytes key row old (reply.Done read.End) new = Tries key row old try.End new
@@ -93,7 +94,7 @@ abbrev pub reading : Key → Row → Promise Lending ReadAnswer
 reading key row = waits_by (AsksForBytes key row)
 
 -- What a read did, by its answer. Own: a read into a buffer of no bytes is refused first, and then
--- one by a process of another kernel; they do nothing.
+-- a read by a process of another kernel; they do nothing.
 abbrev pub Reads : Key → Row → Calling → Result ReadAnswer Fault → Calling → Type 0
 Reads key row old (Err fault.BadCount) new = new ≡ old
 Reads key row old (Err fault.NoRendez) new = new ≡ old
@@ -101,11 +102,11 @@ Reads key row old answer new = Waited (reading key row) (reader_rendez row) old 
 
 -- ---- a read as it is run
 
--- where a read stands, and the timer that its runner is lent
+-- the state of a read, and the timer that its runner is lent
 abbrev pub run_call : {Timer : Type 0} → Calling → Timer → RunPoint Timer Lending
 run_call call timer = record { at = call; timer = timer }
 
--- what one that is not refused at once did
+-- what a read did that was not refused at once
 abbrev pub ReadsBy : {Timer : Type 0} → Runs Timer → Key → Row → RunPoint Timer Lending
     → Result ReadAnswer Fault → RunPoint Timer Lending → Type 0
 ReadsBy runs key row = runs.ran (reading key row) (reader_rendez row)

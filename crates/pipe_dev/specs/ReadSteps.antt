@@ -1,4 +1,4 @@
--- What the steps of a read come to.
+-- The results of the steps of a read.
 use Rattle.std.specs.Prelude.{ℕ, nat_lt, if◌then◌else◌}
 use Rattle.pipe_dev.specs.declared.answers.ReadAnswer.{ReadAnswer}
 use Rattle.pipe_dev.specs.declared.answers.ReadAnswer.TheVariants as read
@@ -8,7 +8,7 @@ use Rattle.pipe_dev.specs.declared.filling.Stop.TheVariants as stop
 use Rattle.waiting.specs.declared.call.Reply.{Reply}
 use Rattle.waiting.specs.declared.call.Reply.TheVariants.{Done, Wait}
 
--- what a try is answered: bytes, or why there are none
+-- the answer to a try: bytes, or why there are none
 abbrev pub found_at : ℕ → Stop → Reply ReadAnswer
 found_at count stop.Enough = Done (read.Got count)
 found_at count (stop.NotYet number) =

@@ -9,13 +9,14 @@ use Rattle.block_queue.specs.declared.view.Key.{Key}
 use Rattle.block_queue.specs.Meaning.{KnowsQueue, queue_after}
 use Rattle.pipe_dev.specs.Parts.{Part, pieces_of, continued, whole_from}
 
--- a read end: what its seat at the queue knows, what it read, and what is left of a begun write
+-- a read end: what its seat at the queue knows, what the end read, and what is left of a begun
+-- write
 pub record Reading : Type 0 where
   pub account : Account Entry
   pub parts : List Part
   pub rest : Option Part
 
--- a rest has a byte at least
+-- a rest has at least one byte
 abbrev pub IsRest : Option Part → Type 0
 IsRest None = ⊤
 IsRest (Some rest) = rest.bytes ≢ []
@@ -31,8 +32,8 @@ pub record IsRight (s : PipeState) (parts : List Part) (rest : Option Part) : Ty
 abbrev pub seen_state : Key → Reading → PipeState
 seen_state key reading = (queue_after key reading.account.seen).pipe
 
--- the seat is the reader's, what it has seen is a legal history, and it has read just what it took
--- out of that
+-- the seat is the reader's, what it has seen is a legal history, and the end has read just what the
+-- seat took out in it
 pub record IsReading (key : Key) (reading : Reading) : Type 0 where
   pub own : IsTrue (has_number reading.account.shares 0)
   pub knows : KnowsQueue key reading.account

@@ -10,11 +10,11 @@ use Rattle.sleep_wakeup.specs.Kernel.{Running}
 use Rattle.pipe_dev.specs.declared.row.Row.{Row}
 use Rattle.pipe_dev.specs.Rounds.{OneMore}
 
--- where the reader waits for a write
+-- the Rendez in which the reader waits for a write
 abbrev pub reader_rendez : Row → RendezId
 reader_rendez row = record { 0 = row.first }
 
--- where this writer waits for room
+-- the Rendez in which this writer waits for room
 abbrev pub writer_rendez : Row → ℕ → RendezId
 writer_rendez row writer = record { 0 = row.first + 1 + writer }
 
@@ -22,14 +22,15 @@ writer_rendez row writer = record { 0 = row.first + 1 + writer }
 abbrev pub OwnsRow : Words → Row → Type 0
 OwnsRow words row = row.first + 1 + row.writers ≤ rendez_of words
 
--- the first so many writers were woken, each once and in order, and the process did nothing else
+-- this many writers, from the first on, were woken, each once and in order, and the process did
+-- nothing else
 abbrev pub WakesWriters : Row → ℕ → ℕ → Process → Process → Type 0
 WakesWriters row zero level before after = after ≡ before
 WakesWriters row (suc count) level before after =
     OneMore (WakesWriters row count level before)
     (λ between last. WakesOne between (writer_rendez row count) level last) after
 
--- each writer was woken with this number, if there is one, and else nobody
+-- each writer was woken with this number, if there is one; else nobody was woken
 abbrev pub WakesWith : Row → Option ℕ → Process → Process → Type 0
 WakesWith row None before after = after ≡ before
 WakesWith row (Some number) before after =

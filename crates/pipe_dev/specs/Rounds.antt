@@ -8,7 +8,7 @@ pub record OneMore {A : Type 0} (Before : A → Type 0) (Round : A → A → Typ
   pub rounds : Before between
   pub last : Round between after
 
--- so many rounds, one after the other
+-- this many rounds, one after the other
 abbrev pub Rounds : {A : Type 0} → (A → A → Type 0) → ℕ → A → A → Type 0
 Rounds Round zero before after = after ≡ before
 Rounds Round (suc times) before after = OneMore (Rounds Round times before) Round after

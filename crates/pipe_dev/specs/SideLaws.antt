@@ -1,5 +1,5 @@
 -- What each call of an end makes of what the end has read or written, and what a finish of all ends
--- finds: a caller's proof from these laws alone goes from the making of a pipe to its finish.
+-- finds. From these laws alone a caller's proof reaches from the making of a pipe to its finish.
 use Rattle.std.specs.Prelude.{◌≡◌, ◌≢◌, ◌+◌, ℕ, List, [], Result}
 use Rattle.sync_base.specs.declared.fault.Fault.{Fault}
 use Rattle.sync_base.specs.declared.mode.Mode.TheVariants.{Message}
@@ -80,7 +80,7 @@ WriteEndsHangUp =
     → Enters (key_of old.queue) (Hung (old.writer + 1)) old.account new.account
     → IsSameWriteEnd old new → AddsToWritten [] old new
 
--- ends that were all ends of a direction are so after any calls
+-- ends that were all ends of a direction still are after any calls
 abbrev pub CallsKeepAllEnds : Type 0
 CallsKeepAllEnds =
     (read read' : ReadSide) (writes writes' : List WriteSide) → IsSameReadEnd read read'

@@ -1,6 +1,6 @@
--- No wakeup of a pipe is lost: who waits for a write or for room is taken out of the Rendez by the
--- wakeup of the call that made its condition true, once that call has returned; and that wakeup is
--- above the number with which it was told to wait.
+-- No wakeup of a pipe is lost. A process that waits for a write or for room is taken out of the
+-- Rendez by the wakeup of the call that made its condition true, once that call has returned; and
+-- the level of that wakeup is above the number with which the process had to wait.
 use Rattle.std.specs.Prelude.{◌≡◌, ◌≢◌, ◌+◌, ◌<◌, ℕ, ⊤, List, [], ◌∷◌, ◌++◌, Some, Ok}
 use Rattle.histories.specs.History.{IsHistory}
 use Rattle.sync_base.specs.declared.limits.TheConstants.{TOP_LEVEL}
@@ -23,8 +23,8 @@ use Rattle.pipe_dev.specs.WriteCalls.{WriteCall, Writer, Accepts, RunsAWrite}
 use Rattle.waiting.specs.declared.call.Reply.TheVariants.{Done}
 use Rattle.waiting.specs.Wakeups.{HasGoneOn}
 
--- Whoever fell asleep on the reader's Rendez below the number of a write that was accepted is no
--- longer posted there, once that write has returned.
+-- A process that fell asleep on the reader's Rendez below the number of a write that was accepted
+-- is no longer posted there, once that write has returned.
 abbrev pub WritesWakeTheReader : Type 0
 WritesWakeTheReader =
     (sizes : Sizes) (s : _) (shows : ShowsCore sizes s)
@@ -37,8 +37,8 @@ abbrev pub ReleasesWriters : State → Row → ℕ → Type 0
 ReleasesWriters state row number =
     (writer : ℕ) → writer < row.writers → ReleasesBelow state (writer_rendez row writer) number
 
--- So with each writer's Rendez, once a call of a read end has returned that took writes out and
--- woke with the number of the last of them.
+-- The same holds of each writer's Rendez, once a call of a read end has returned that took writes
+-- out and woke with the number of the last of them.
 abbrev pub ReadsWakeEachWriter : Type 0
 ReadsWakeEachWriter =
     (sizes : Sizes) (s : _) (shows : ShowsCore sizes s)
@@ -59,37 +59,38 @@ HangupsWakeAll =
 
 -- ---- and these wakeups are enough
 
--- no read took the write with this number out
+-- no read took out the write with this number
 abbrev pub IsUnread : ℕ → List Entry → Type 0
 IsUnread number [] = ⊤
 IsUnread number (Block writer block its ∷ past) = (its ≢ number) × IsUnread number past
 IsUnread number (entry ∷ past) = IsUnread number past
 
--- where the reader was told to wait, each write that it had not read and that stood later has a
--- number above the one that it was told
+-- where the reader had to wait, each write that it had not read and that stood later has a number
+-- above the number with which it had to wait
 abbrev pub AreReadersWokenAbove : List Entry → Type 0
 AreReadersWokenAbove history =
     (past since : List Entry) (told writer number : ℕ)
     → history ≡ Stood writer number ∷ (since ++ (NotYet told ∷ past))
     → IsUnread number past → told < number
 
--- where a writer was told to wait for room, each write that was taken out later has a number above
--- the one that it was told
+-- where a writer had to wait for room, each write that was taken out later has a number above the
+-- number with which it had to wait
 abbrev pub AreWritersWokenAbove : List Entry → Type 0
 AreWritersWokenAbove history =
     (past since : List Entry) (waits writer told number : ℕ) (waiting block : List ℕ)
     → history ≡ Block writer block number ∷ (since ++ (Full waits waiting told ∷ past))
     → told < number
 
--- A write wakes the reader with its number: that is above what a reader was told that waits for it.
+-- A write wakes the reader with its number, which is above the number with which the reader has to
+-- wait.
 abbrev pub WaitingReadersAreWokenAbove : Type 0
 WaitingReadersAreWokenAbove =
     (key : Key) (history : List Entry)
     → IsHistory (queue_meaning key.first) (opening_state key.limit) (key.writers + 1) history
     → AreReadersWokenAbove history
 
--- A read wakes the writers with the number of the write that it took out: that is above what a
--- writer was told that waits for room.
+-- A read wakes the writers with the number of the write that it took out, which is above the number
+-- with which a writer has to wait for room.
 abbrev pub WaitingWritersAreWokenAbove : Type 0
 WaitingWritersAreWokenAbove =
     (key : Key) (history : List Entry)
@@ -107,8 +108,8 @@ RunWritesWakeTheReader =
     → RunsAWrite call old (Ok number) new → HasGoneOn s.views new.process
     → ReleasesBelow (world_of sizes.procs sizes.rendez shows.run) (reader_rendez call.row) number
 
--- the last try of a read that was answered so: the writers are released below the number with which
--- it woke them
+-- the last try of a read with this answer: the writers are released below the number with which it
+-- woke them
 pub record LastTryReleases (state : State) (key : Key) (row : Row) (answer : ReadAnswer)
     (new : Calling) : Type 0 where
   pub before : Calling
@@ -117,7 +118,7 @@ pub record LastTryReleases (state : State) (key : Key) (row : Row) (answer : Rea
   pub released : (number : ℕ) → WakesWith row (Some number) before.process process
       → ReleasesWriters state row number
 
--- So with a read, and the writers.
+-- The same for a read, and the writers.
 abbrev pub RunReadsWakeEachWriter : Type 0
 RunReadsWakeEachWriter =
     (sizes : Sizes) (s : _) (shows : ShowsCore sizes s)

@@ -37,7 +37,7 @@ Writer = Point (Account Entry)
 abbrev pub writer_of : WriteSide → Running → Writer
 writer_of side proc = point side.account proc
 
--- a call of write: the queue and the Rendez of the direction, who writes there, and the bytes
+-- a call of write: the queue and the Rendez of the direction, the writer, and the bytes
 pub record WriteCall : Type 0 where
   pub key : Key
   pub row : Row
@@ -50,7 +50,7 @@ call_of side bytes =
     record { key = key_of side.queue; row = side.row; writer = side.writer; bytes = bytes }
 
 -- a put found no room: this entry was made, and nothing else was done. A writer that knew of the
--- hangup is not told so.
+-- hangup does not get this answer.
 pub record FindsFull (call : WriteCall) (number : ℕ) (old new : Writer) : Type 0 where
   pub entered : Enters call.key (entry.Full call.writer call.bytes number)
       old.seat new.seat
@@ -62,7 +62,7 @@ pub record Accepts (call : WriteCall) (number : ℕ) (old new : Writer) : Type 0
   pub stands : Stands call.key call.writer call.bytes number old.seat new.seat
   pub woken : WakesOne old.process (reader_rendez call.row) number new.process
 
--- someone hung the direction up, as far as this history tells
+-- someone hung the direction up in this history
 abbrev pub HasHang : List Entry → Type 0
 HasHang [] = ⊥
 HasHang (entry.Hung seat ∷ past) = ⊤
@@ -75,12 +75,12 @@ pub record IsTooLate (call : WriteCall) (old new : Writer) : Type 0 where
   pub knew : HasHang new.seat.seen
   pub noted : new.process ≡ notes old.process (pid_in old.process) (only ClosedPipe)
 
--- the last number is given
+-- the last number was given
 pub record IsWornOut (call : WriteCall) (old new : Writer) : Type 0 where
   pub entered : Enters call.key (entry.Worn call.writer call.bytes) old.seat new.seat
   pub process : new.process ≡ old.process
 
--- one request of a write, by what it was told
+-- one request of a write, by its answer
 abbrev pub AsksForRoom : WriteCall → Writer → Reply ℕ → Writer → Type 0
 AsksForRoom call old (reply.Done number) new = Accepts call number old new
 AsksForRoom call old (reply.Wait number) new = FindsFull call number old new
@@ -92,9 +92,9 @@ AsksForRoom call old (reply.Refused why) new = ⊥
 abbrev pub writing : WriteCall → Promise (Account Entry) ℕ
 writing call = waits_by (AsksForRoom call)
 
--- What a write did, by its answer. Own: a write above the atomic size is refused first, and then
--- one by a process of another kernel; they and a write for whose block there is no memory do
--- nothing.
+-- What a write did, by its answer. Own: a write above the atomic size is refused first, and then a
+-- write by a process of another kernel. These two, and a write for whose block there is no memory,
+-- do nothing.
 abbrev pub Writes : WriteCall → Writer → Result ℕ Fault → Writer → Type 0
 Writes call old (Err fault.TooBig) new = new ≡ old
 Writes call old (Err fault.NoRendez) new = new ≡ old
@@ -104,26 +104,26 @@ Writes call old answer new =
 
 -- ---- a write as it is run
 
--- where the write of an end stands, and the timer that its runner is lent
+-- the state of a write, and the timer that its runner is lent
 abbrev pub run_writer : {Timer : Type 0} → WriteSide → Timer → Running
     → RunPoint Timer (Account Entry)
 run_writer side timer proc = run_point side.account timer proc
 
--- it was refused for this before its first request, and did nothing
+-- the call was refused with this fault before its first request, and did nothing
 pub record IsRefusedAs {Out At : Type 0} (why : Fault) (old : At) (answer : Result Out Fault)
     (new : At) : Type 0 where
   pub answer_is : answer ≡ Err why
   pub same : new ≡ old
 
--- what one that is neither too big nor by a process of another kernel did: there was no memory for
--- its block, or its runner ran it so
+-- what a write did that is neither too big nor by a process of another kernel: there was no memory
+-- for its block, or its runner ran it with this result
 abbrev pub WritesBy : {Timer : Type 0} → Runs Timer → WriteCall → RunPoint Timer (Account Entry)
     → Result ℕ Fault → RunPoint Timer (Account Entry) → Type 0
 WritesBy runs call old answer new =
     IsRefusedAs fault.Memory old answer new
     ⊎ runs.ran (writing call) (writer_rendez call.row call.writer) old answer new
 
--- and whatever its runner is, it wanted memory, or was a call
+-- and whatever its runner is, it lacked memory, or was a call
 abbrev pub RunsAWrite : WriteCall → Writer → Result ℕ Fault → Writer → Type 0
 RunsAWrite call old answer new =
     IsRefusedAs fault.Memory old answer new
@@ -136,8 +136,8 @@ RunsOfWritesAreWrites =
 
 -- ---- a long write
 
--- Own: a long write is writes of the atomic size, and one of the rest; what fits is one write.
--- The fuel is the length: each write but the last takes some bytes off.
+-- Own: a long write is writes of the atomic size, and one write of the rest; what fits is one
+-- write. The fuel is the length: each write but the last takes some bytes off.
 abbrev pub atomic_writes_in : ℕ → List ℕ → List (List ℕ)
 atomic_writes_in zero bytes = bytes ∷ []
 atomic_writes_in (suc fuel) bytes =
@@ -166,7 +166,7 @@ abbrev pub bytes_in : List (List ℕ) → ℕ
 bytes_in [] = 0
 bytes_in (block ∷ blocks) = bytes_in blocks + length block
 
--- the long write ended so: all was written, or the next write was answered this fault
+-- the long write ended like this: all was written, or the next write got this fault
 abbrev pub EndsLong : WriteCall → List (List ℕ) → Writer → Option Fault → Writer → Type 0
 EndsLong call done old None new = (new ≡ old) × (reverse done ≡ atomic_writes call.bytes)
 EndsLong call done old (Some why) new =
@@ -175,7 +175,7 @@ EndsLong call done old (Some why) new =
     × Writes (call_for call block) old (Err why) new
 
 -- What a long write did: the writes that it is cut into, in their order, up to the first that was
--- not accepted; and it counts the bytes of those that were.
+-- not accepted; it counts the bytes of the writes that were.
 pub record WritesLong (call : WriteCall) (old : Writer) (long : Long) (new : Writer) :
     Type 0 where
   pub done : List (List ℕ)

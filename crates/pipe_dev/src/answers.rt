@@ -1,19 +1,19 @@
-//! What callers of an end are told.
+//! The answers to callers of an end.
 use sync_base::Fault;
 
-/// What a read was answered. In stream mode its bytes may be of many writes.
+/// The answer to a read. In stream mode its bytes may be of many writes.
 #[derive(Clone, Copy, Debug, PartialEq, Eq, Drop)]
 pub enum ReadAnswer {
-    /// So many bytes of one write are in the buffer.
+    /// This many bytes are in the buffer.
     Got(usize),
     /// All is read and the direction is hung up, so no more will come.
     End,
 }
 
-/// What a read that does not wait was answered.
+/// The answer to a read that does not wait.
 #[derive(Clone, Copy, Debug, PartialEq, Eq)]
 pub enum TryAnswer {
-    /// So many bytes of one write are in the buffer.
+    /// This many bytes are in the buffer.
     Got(usize),
     /// The next write is not there yet.
     NotYet,
@@ -21,11 +21,11 @@ pub enum TryAnswer {
     End,
 }
 
-/// What a long write came to.
+/// The answer to a long write.
 #[derive(Clone, Copy, Debug, PartialEq, Eq)]
 pub struct Long {
     /// How many bytes were accepted.
     pub taken: u64,
-    /// Why it ended before all were.
+    /// Why it ended before all were accepted.
     pub fault: Option<Fault>,
 }

@@ -30,11 +30,11 @@ impl<'p> ReadEnd<'p> {
     ghost use Rattle.pipe_dev.specs.Rendezes.{OwnsRow};
 
     /// Reads all that is left of the write that was begun, or else the next write. No byte is
-    /// copied to another block: this one becomes the block that was written, so its length is what
-    /// was read, and what is left of a begun write moves to its front. The memory that it had goes
-    /// to the writers, who fill it again: call with the block of the last call. In stream mode too
-    /// it reads one write, and an empty one as no bytes. Where nothing is there yet it waits. Takes
-    /// no memory.
+    /// copied to another block: this block becomes the block that was written, so its length is
+    /// what was read, and what is left of a begun write moves to its front. Its old memory goes to
+    /// the writers, who fill it again: call with the block of the last call. In stream mode too it
+    /// reads one write, and reads an empty write as no bytes. Where nothing is there yet it waits.
+    /// Takes no memory.
     ///
     /// `End` where the direction is hung up and all is read. Refuses, in this order, as `NoRendez`
     /// where the kernel of the process does not own all the Rendez of the direction, and where it

@@ -17,7 +17,7 @@ use sync_base::{Fault, Piece};
 /// What a direction still held.
 #[derive(Drop)]
 pub struct Held {
-    /// What is unread of a write that was begun.
+    /// The unread rest of a write that was begun.
     pub rest: Piece,
     /// The writes that no read has begun, the oldest first.
     pub writes: Vec<StoredBlock>,
@@ -33,7 +33,7 @@ pub struct Unfinished<'p> {
 }
 
 impl<'p> Unfinished<'p> {
-    /// Why: out of memory, which is the one refusal of a finish.
+    /// Why: out of memory, the only refusal of a finish.
     pub fn fault(&self) -> Fault
         ensures { result ≡ Fault.Memory }
     {
@@ -41,8 +41,9 @@ impl<'p> Unfinished<'p> {
     }
 }
 
-/// Takes all ends of one direction back, the write ends in the order of `parts`, and gives what it
-/// still held. Takes memory and doesn't wait. Where there is no memory all ends come back.
+/// Takes all ends of one direction back, the write ends in the order of `parts`, and gives what the
+/// direction still held. Takes memory and doesn't wait. Where there is no memory, all ends come
+/// back.
 pub fn finish<'p>(
     alloc: Global,
     read: ReadEnd<'p>,

@@ -26,7 +26,8 @@ pub struct Ends<'p> {
     pub second: End<'p>,
 }
 
-/// The parts of an end: where it is read, and where each of its writers writes.
+/// The parts of an end: the read end of one direction, and a write end of the other for each
+/// writer.
 #[derive(Drop)]
 pub struct Parts<'p> {
     pub read: ReadEnd<'p>,
@@ -65,8 +66,8 @@ impl Pipe {
 impl<'p> End<'p> {
     ghost use Rattle.std.specs.Prelude.{◌≡◌};
 
-    /// Where the end is read, and where it is written, a write end for each writer. The write ends
-    /// write to the read end of the other end. Takes no memory and doesn't wait.
+    /// The read end and the write ends of this end, a write end for each writer. What they write is
+    /// read at the other end. Takes no memory and doesn't wait.
     pub fn parts(self) -> Parts<'p>
         ensures read { result.read ≡ self.entry.read }
         ensures writes { result.writes.items ≡ self.entry.writes.items }
@@ -93,7 +94,7 @@ fn make_ends<'p>(queue: &'p Queue, start: DirectionStart<'p>) -> Parts<'p>
     }
 }
 
-/// A write end for each seat, in the room.
+/// Puts a write end for each seat into the room.
 pub(crate) fn seat_writers<'p>(
     queue: &'p Queue,
     row: Row,

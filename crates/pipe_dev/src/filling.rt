@@ -10,7 +10,7 @@ use crate::state::ReadState;
 use block_queue::{Queue, TakeAnswer};
 use sync_base::Mode;
 
-/// Why a read went no further.
+/// Why a read stopped.
 #[derive(Clone, Copy, Drop)]
 pub enum Stop {
     /// It has a message, or in stream mode its buffer is full.
@@ -21,7 +21,7 @@ pub enum Stop {
     End,
 }
 
-/// How far a read came: how many bytes it gave, and why it went no further.
+/// How far a read came: how many bytes it gave, and why it stopped.
 #[derive(Clone, Copy, Drop)]
 pub struct ReadOutcome {
     pub(crate) count: usize,
@@ -43,7 +43,8 @@ pub(crate) enum Next {
     End,
 }
 
-/// Reads part by part: in message mode one, and in stream mode as far as the buffer has room.
+/// Reads part by part: one part in message mode, and in stream mode as many as the buffer has room
+/// for.
 #[inline(always)]
 pub(crate) fn fill(queue: &Queue, row: &Row, state: &mut ReadState, buffer: &mut [u8]) -> FillResult
     requires state { IsReadState queue.now row.now state.old }

@@ -29,14 +29,14 @@ ghost use Rattle.pipe_dev.specs.WaitLaws.{
 ghost use Rattle.pipe_dev.specs.ReadCalls.{RunsOfReadsAreReads};
 ghost use Rattle.pipe_dev.specs.WriteCalls.{RunsOfWritesAreWrites};
 
-/// A process of the kernel whose roster made a pipe is never answered `NoRendez` at its ends.
+/// A process of the kernel whose roster made a pipe never gets `NoRendez` at its ends.
 pub fn own_processes_are_never_refused()
     ensures ends { OwnKernelHasEachRendez }
 {}
 
 /// A try of messages reads one part, or finds nothing. Each call of a read end adds one part for
-/// the bytes that it got and nothing else; in stream mode a read adds the parts that join to them,
-/// and of what has no bytes parts that are empty. What was read stays right.
+/// the bytes that it got and nothing else. In stream mode a read adds the parts that its bytes are
+/// joined from, and an empty part for each empty write that it passed. What was read stays right.
 pub fn calls_read_what_they_answer()
     ensures messages { MessagesAreReadOneByOne }
     ensures reads { ReadsAreSteps }
@@ -46,7 +46,7 @@ pub fn calls_read_what_they_answer()
     ensures right { WhatIsReadIsRight }
 {}
 
-/// Each call of a write end adds one accepted write exactly where it answers a number.
+/// Each call of a write end adds one accepted write if and only if it answers a number.
 pub fn calls_write_what_they_answer()
     ensures new { NewEndsHaveWrittenNothing }
     ensures writes { WritesAddWhatWasAccepted }
@@ -55,10 +55,10 @@ pub fn calls_write_what_they_answer()
 
 /// The headline. Whatever calls were made of the ends of a direction, from any threads: what was
 /// read from it, followed by what it still holds, is for each writer the bytes of its accepted
-/// writes, in its order, each write whole, contiguous and once; no write is accepted after a
-/// hangup; no process that fell asleep before its condition was made true stays posted once the
-/// wakeup that followed has returned; and the level of that wakeup is above the number that the
-/// process was told to wait with.
+/// writes, in its order, each write whole, contiguous and once. No write is accepted after a
+/// hangup. Once the wakeup that followed has returned, no process that fell asleep before its
+/// condition was made true is still posted, and the level of that wakeup is above the number with
+/// which the process had to wait.
 pub fn each_write_is_read_whole_and_once()
     ensures shares { EachShareIsReadWholeAndOnce }
     ensures whole { EachWriteIsReadWholeAndOnce }
@@ -70,9 +70,9 @@ pub fn each_write_is_read_whole_and_once()
     ensures writers_above { WaitingWritersAreWokenAbove }
 {}
 
-/// A call does to its direction what one does that waits as long as it takes, whatever its runner
-/// is, by steps of its caller, and comes to the same or to nothing: so the laws of writes and reads
-/// hold of it.
+/// Whatever its runner is, a call does to its direction what a call that waits as long as it takes
+/// does, by steps of its caller, with the same answer or none: so the laws of writes and reads hold
+/// of it.
 pub fn runs_are_calls()
     ensures writes { RunsOfWritesAreWrites }
     ensures reads { RunsOfReadsAreReads }

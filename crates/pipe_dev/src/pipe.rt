@@ -22,7 +22,7 @@ pub struct Pipe {
     pub(crate) back: Queue,
 }
 
-/// What the ends of a pipe are made of. `Pipe::ends` spends it.
+/// What the ends of a pipe are made from. `Pipe::ends` spends it.
 #[derive(Drop)]
 #[must_use]
 pub struct PipeStart<'p> {
@@ -30,8 +30,8 @@ pub struct PipeStart<'p> {
     pub(crate) back: DirectionStart<'p>,
 }
 
-/// What the ends of one direction are made of: its Rendez, the state of the read end and the seats
-/// of the writers, and room for the write ends.
+/// What the ends of one direction are made from: its Rendez, the state of the read end and the
+/// seats of the writers, and room for the write ends.
 #[derive(Drop)]
 pub struct DirectionStart<'p> {
     pub(crate) row: Row,
@@ -40,7 +40,7 @@ pub struct DirectionStart<'p> {
     pub(crate) room: Vec<WriteEnd<'p>>,
 }
 
-/// A new pipe, and what its ends are made of.
+/// A new pipe, and what its ends are made from.
 #[derive(Drop)]
 pub struct Opened<'p> {
     pub pipe: Pipe,
@@ -55,9 +55,9 @@ impl Pipe {
     ghost use Rattle.pipe_dev.specs.Openings.{Opens, OpensStream, OpensIn, OwnsRows};
     ghost use Rattle.pipe_dev.specs.Openings.{IsStartOf, rendez_for};
 
-    /// A new pipe, each of whose directions holds at most `limit` writes that no read has begun and
-    /// has so many writers. A read stops at the end of a write. It takes `2 * (1 + writers)` Rendez
-    /// of the kernel. Doesn't wait.
+    /// A new pipe. Each of its directions has `writers` writers, and holds at most `limit` writes
+    /// that no read has begun. A read stops at the end of a write. It takes `2 * (1 + writers)`
+    /// Rendez of the kernel. Doesn't wait.
     ///
     /// Refuses, in this order, as `BadSize`, `NoRendez` and `Memory`.
     pub fn new<'p>(
@@ -85,7 +85,7 @@ impl Pipe {
     }
 
     /// A new pipe in stream mode: a read goes on from write to write, and passes the empty ones
-    /// that it meets. It takes as many Rendez, and doesn't wait.
+    /// that it meets. It takes as many Rendez as `new`, and doesn't wait.
     ///
     /// Refuses, in this order, as `BadSize`, `NoRendez` and `Memory`.
     pub fn new_stream<'p>(

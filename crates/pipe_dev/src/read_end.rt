@@ -45,7 +45,8 @@ impl<'p> ReadEnd<'p> {
         ReadEnd { queue, row, state }
     }
 
-    /// Where its process sleeps while there is nothing to read. Takes no memory and doesn't wait.
+    /// The Rendez in which its process sleeps while there is nothing to read. Takes no memory and
+    /// doesn't wait.
     pub fn rendez(&self) -> RendezId
         ensures { result ≡ reader_rendez self.now.row }
     {

@@ -38,7 +38,7 @@ impl<'p> ReadEnd<'p> {
     /// `End` where the direction is hung up and all is read. Refuses, in this order, as `BadCount`
     /// for a buffer of no bytes, as `NoRendez` where the kernel of the process does not own all the
     /// Rendez of the direction, and where it would wait as `DoubleSleep` and `Interrupted`. A read
-    /// that took a write out wakes each writer with its number, in stream mode with that of the
+    /// that took a write out wakes each writer with the number of that write, in stream mode of the
     /// last one. After pipe(3) and read(2).
     pub fn read<R: Wait>(
         &mut self,

@@ -31,7 +31,7 @@ impl Model for Remainder {
     ghost invariant = { λ begun. begun.at ≤ length begun.block };
 }
 
-/// What a read gave of it, what is left, and the memory of the block where nothing is.
+/// What a read gave of a write, what is left, and the memory of the block where nothing is left.
 #[derive(Drop)]
 pub(crate) struct Delivery {
     pub(crate) count: usize,
@@ -56,7 +56,7 @@ impl Remainder {
         }
     }
 
-    /// Gives the buffer what it has room for. Each byte is copied once.
+    /// Fills the buffer as far as there are bytes. Each byte is copied once.
     pub(crate) fn give(self, buffer: &mut [u8]) -> Delivery
         ensures filled { IsFilledBy (part_of (length buffer.old) self).bytes buffer.old buffer.new
             result.count }
@@ -92,8 +92,8 @@ impl Remainder {
         }
     }
 
-    /// Makes the block that of the bytes that are left, and gives the memory that it had. Where a
-    /// part was read the bytes move to the front of their memory, and else none moves.
+    /// Turns the block into the bytes that are left, and returns its old memory. Where a part was
+    /// read, the bytes move to the front of their memory; else no byte moves.
     #[inline(always)]
     pub(crate) fn hand_over(self, block: &mut Vec<u8>) -> Spare
         ensures { block.new.items ≡ self.bytes }

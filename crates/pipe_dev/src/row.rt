@@ -4,8 +4,8 @@ ghost use Rattle.std.specs.Prelude.{◌≡◌, ◌+◌, ◌<◌, ◌^◌};
 use sleep_wakeup::Proc;
 use sync_base::{Mode, RendezId};
 
-/// The Rendez of a direction: the reader's, and after it one for each writer, in order. And whether
-/// a read of it stops at the end of a write.
+/// The Rendez of a direction: the reader's, and then one for each writer, in order; and whether a
+/// read of the direction stops at the end of a write.
 #[derive(Clone, Copy, Drop)]
 pub struct Row {
     pub(crate) first: u64,
@@ -18,21 +18,21 @@ impl Row {
     ghost use Rattle.std.specs.Prelude.{◌≡◌, ◌+◌, ◌<◌, ◌↔◌, true};
     ghost use Rattle.pipe_dev.specs.Rendezes.{reader_rendez, writer_rendez, OwnsRow};
 
-    /// These Rendez are among those of the process's kernel.
+    /// Whether these Rendez are among those of the process's kernel.
     pub(crate) fn is_known_to(&self, proc: &Proc<'_>) -> bool
         ensures { (result ≡ true) ↔ OwnsRow proc.now.words self.now }
     {
         self.first + 1 + self.writers <= proc.rendez_count()
     }
 
-    /// Where the reader waits for a write.
+    /// The Rendez in which the reader waits for a write.
     pub(crate) fn reader(&self) -> RendezId
         ensures { result ≡ reader_rendez self.now }
     {
         RendezId(self.first)
     }
 
-    /// Where this writer waits for room.
+    /// The Rendez in which this writer waits for room.
     pub(crate) fn writer(&self, writer: u64) -> RendezId
         requires { writer < self.now.writers }
         ensures { result ≡ writer_rendez self.now writer }

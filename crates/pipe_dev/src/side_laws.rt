@@ -1,5 +1,5 @@
-//! What is known of the ends of a direction between their calls, for who lends them to threads.
-//! Each law is a function with an empty body, whose contract says it.
+//! What is known of the ends of a direction between their calls, for a caller that lends them to
+//! threads. Each law is a function with an empty body, whose contract says it.
 ghost use Rattle.pipe_dev.specs.SideLaws.{
   NewEndsAreUnused,
   ReadsAddToTheirEnd,
@@ -12,8 +12,8 @@ ghost use Rattle.pipe_dev.specs.SideLaws.{
   FinishesFindAccepted,
 };
 
-/// New ends have read and written nothing, and each call adds to what its end has read or written
-/// just what it answers.
+/// New ends have read and written nothing. Each call adds to what its end has read or written what
+/// it answers, and nothing else.
 pub fn ends_know_what_they_did()
     ensures new { NewEndsAreUnused }
     ensures reads { ReadsAddToTheirEnd }
@@ -24,8 +24,8 @@ pub fn ends_know_what_they_did()
     ensures write_hangups { WriteEndsHangUp }
 {}
 
-/// No call takes an end away from its direction, and a finish of all ends finds all that was
-/// accepted: what was read and what is held are just these writes, each whole and once.
+/// No call takes an end away from its direction. A finish of all ends finds all that was accepted:
+/// what was read and what is held are just these writes, each whole and once.
 pub fn all_ends_find_all_writes()
     ensures keep { CallsKeepAllEnds }
     ensures found { FinishesFindAccepted }

@@ -1,4 +1,5 @@
-//! What an end makes its calls with. A call is lent it, and its requests change it in place.
+//! The states with which an end makes its calls. A call is lent the state, and its requests change
+//! it in place.
 use crate::remainder::Remainder;
 use block_queue::{PutSeat, TakeSeat};
 use sync_base::Piece;

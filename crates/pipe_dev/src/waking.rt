@@ -12,7 +12,7 @@ use sleep_wakeup::Proc;
 use sync_base::RendezId;
 use sync_base::limits::TOP_LEVEL;
 
-/// Wakes whoever sleeps on the Rendez, which is the kernel's.
+/// Wakes the process that sleeps on the Rendez, if there is one. The Rendez is the kernel's.
 pub(crate) fn wake(proc: &mut Proc<'_>, rendez: RendezId, level: u64)
     requires rendez { rendez.0 < rendez_of proc.old.words }
     ensures woken { WakesOne proc.old.process rendez level proc.new.process }

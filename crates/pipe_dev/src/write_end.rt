@@ -47,7 +47,7 @@ impl<'p> WriteEnd<'p> {
         WriteEnd { queue, row, state }
     }
 
-    /// Its seat. The end is spent.
+    /// The seat of the end. The end is spent.
     pub(crate) fn into_seat(self) -> PutSeat
         ensures { IsSeatOf self.entry result }
     {
@@ -67,7 +67,8 @@ impl<'p> WriteEnd<'p> {
         self.state.seat.writer()
     }
 
-    /// Where its process sleeps while there is no room. Takes no memory and doesn't wait.
+    /// The Rendez in which its process sleeps while there is no room. Takes no memory and doesn't
+    /// wait.
     pub fn rendez(&self) -> RendezId
         ensures { result ≡ writer_rendez self.now.row self.now.writer }
     {

@@ -1,4 +1,4 @@
-//! How more than one write's bytes are written.
+//! How the bytes of more than one write are written.
 use crate::answers::Long;
 use crate::write_end::WriteEnd;
 use sleep_wakeup::Proc;
@@ -13,9 +13,9 @@ impl<'p> WriteEnd<'p> {
     ghost use Rattle.pipe_dev.specs.Rendezes.{OwnsRow};
     ghost use Rattle.pipe_dev.specs.WriteCalls.{WritesLong, call_of, writer_of};
 
-    /// Writes these bytes as writes of the atomic size, and one of the rest; no bytes are one empty
-    /// write. It waits as `write` does, and stops at the first fault. None is `TooBig`; `NoRendez`
-    /// comes before any byte is taken.
+    /// Writes these bytes as writes of the atomic size, and one write of the rest; no bytes are one
+    /// empty write. It waits as `write` does, and stops at the first fault. No fault is `TooBig`,
+    /// and `NoRendez` comes before any byte is taken.
     pub fn write_long<R: Wait>(
         &mut self,
         alloc: Global,

@@ -28,15 +28,15 @@ impl<'p> WriteEnd<'p> {
     ghost use Rattle.pipe_dev.specs.WriteCalls.{IsRefusedAs, RunsAWrite, Writes, WritesBy};
     ghost use Rattle.pipe_dev.specs.WriteCalls.{call_of, run_writer, writer_of};
 
-    /// Writes these bytes as one write, which is read whole and in one piece, and answers its
+    /// Writes these bytes as one write, which is read whole and in one piece, and returns its
     /// number. Where there is no room it waits. Memory is taken for the bytes.
     ///
     /// Refuses, in this order, as `TooBig` above the atomic size, as `NoRendez` where the kernel of
     /// the process does not own all the Rendez of the direction, as `Memory`, as `Hungup` where the
-    /// direction is hung up, and then the note of a write on a closed pipe is posted to the
-    /// process; as `Worn` where the last number is given, and where it would wait as `DoubleSleep`
-    /// and `Interrupted`. A write that was accepted wakes the reader with its number. After pipe(3)
-    /// and write(2).
+    /// direction is hung up, with the note of a write on a closed pipe posted to the process, as
+    /// `Worn` where the last number was given, and where it would wait as `DoubleSleep` and
+    /// `Interrupted`. A write that was accepted wakes the reader with its number. After pipe(3) and
+    /// write(2).
     pub fn write<R: Wait>(
         &mut self,
         alloc: Global,

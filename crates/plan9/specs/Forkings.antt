@@ -6,7 +6,7 @@ use Rattle.sleep_wakeup.specs.Forks.{HasPid}
 use Rattle.sleep_wakeup.specs.Kernel.{Running, Unused, next_process, one_pid_less}
 
 -- The child has the next pid, is in its parent's group and has made no step; or no pid is left, and
--- none was used up.
+-- no pid was used up.
 abbrev pub ForksOne : ℕ → Unused → Result Running Fault → Unused → Type 0
 ForksOne parent before (Ok child) after =
     HasPid before × (child ≡ next_process before)

@@ -1,5 +1,5 @@
--- What rfork(2) of a guest does, after fork(2): what the rfork of its tag space does, of guests and
--- halls.
+-- What rfork(2) of a guest does, after fork(2): what the rfork of its tag space does, said of
+-- guests and halls.
 use Rattle.std.specs.Prelude.{◌≡◌, ◌⊎◌, IsTrue}
 use Rattle.sync_base.specs.declared.fault.Fault.{Fault}
 use Rattle.sync_base.specs.declared.fault.Fault.TheVariants as fault
@@ -20,7 +20,7 @@ pub record GuestFork : Type 0 where
   pub guest : Visiting
   pub flags : Flags
 
--- the call with these
+-- the call with these arguments
 abbrev pub guest_fork : Unused → Visiting → Flags → GuestFork
 guest_fork unused guest flags = record { unused = unused; guest = guest; flags = flags }
 
@@ -32,7 +32,7 @@ in_space call = rfork_of call.unused call.guest.space call.flags
 abbrev pub KnowsHall : GuestFork → Type 0
 KnowsHall call = OwnsRow call.guest.space call.unused.words
 
--- the roster is of another kernel, and then no call is made
+-- the roster is of another kernel, and then its tag space is not called
 pub record RefusesStranger (call : GuestFork) (after : Visiting) (why : Fault) : Type 0 where
   pub strange : ¬ KnowsHall call
   pub why_is : why ≡ fault.NoRendez
@@ -47,8 +47,8 @@ pub record RefusesCall (call : GuestFork) (after : Visiting) (why : Fault) : Typ
 abbrev pub WhyNotForkedGuest : GuestFork → Visiting → Fault → Type 0
 WhyNotForkedGuest call after why = RefusesStranger call after why ⊎ RefusesCall call after why
 
--- the guest that comes back is the one that called, and its member is as it was, but where all
--- members were given it knows that too; and nothing is used up
+-- the guest that comes back is the one that called, and its member is as it was, except that it may
+-- know that all members were given; and nothing is used up
 pub record ChangesNothing (call : GuestFork) (after : Visiting) (unused : Unused) : Type 0 where
   pub space_is : after.space ≡ call.guest.space
   pub running_is : after.running ≡ call.guest.running
@@ -87,7 +87,7 @@ pub record HasChildApart (call : GuestFork) (guest : Visiting) (hall : Hosting) 
   pub hall_is : IsNewHall call.unused call.guest.space.procs hall
   pub child_is : child ≡ next_process call.unused
 
--- By the flags: who is in which hall.
+-- By the flags: which process is in which hall.
 abbrev pub ForksGuest : GuestFork → ForkedGuest → Type 0
 ForksGuest call (Alone guest) = StaysAlone call guest
 ForksGuest call (Child guest child) = HasChild call guest child

@@ -22,7 +22,7 @@ pub record Visiting : Type 0 where
   pub running : Running
   pub member : Member
 
--- the Rendez of this space are so many from this one on
+-- the Rendez of this space are this many from this one on
 pub record IsRowOfSpace (space : TagSpace) (first procs : ℕ) : Type 0 where
   pub first_is : space.first.0 ≡ first
   pub procs_are : space.procs ≡ procs
@@ -44,13 +44,13 @@ IsNewHall roster procs hall =
     × (hall.spare ≡ Some member)
 
 -- why a process can't be the first: its kernel does not own all the Rendez of the hall, or another
--- was
+-- process was the first
 abbrev pub WhyNotFirstGuest : Hosting → Running → Fault → Type 0
 WhyNotFirstGuest hall running fault.NoRendez = ¬ OwnsRow hall.space running.words
 WhyNotFirstGuest hall running fault.NoProc = OwnsRow hall.space running.words × (hall.spare ≡ None)
 WhyNotFirstGuest hall running other = ⊥
 
--- this is the member that no process had, and it is one that the process may have
+-- this is the member that no process had, and the process may have it
 pub record IsFirstMemberOf (hall : Hosting) (running : Running) (member : Member) : Type 0 where
   pub member_is : Some member ≡ hall.spare
   pub of_space : IsMemberOf hall.space member
@@ -66,27 +66,27 @@ TakesMember old running (Ok member) new =
     IsFirstMemberOf old running member × (new ≡ without_member old)
 TakesMember old running (Err why) new = WhyNotFirstGuest old running why × (new ≡ old)
 
--- the process has the member that none had
+-- the process has the member that no process had
 pub record IsFirstGuest (hall : Hosting) (running : Running) (guest : Visiting) : Type 0 where
   pub space_is : guest.space ≡ hall.space
   pub running_is : guest.running ≡ running
   pub member_is : Some guest.member ≡ hall.spare
 
--- where a guest's call stands
+-- the state of a guest's call
 abbrev pub guest_point : Visiting → Point Member
 guest_point guest = point guest.member guest.running
 
--- the same process of the same kernel, which is the same member of the same space
+-- the same process of the same kernel, with the same member of the same space
 pub record IsSameGuest (old new : Visiting) : Type 0 where
   pub space_is : new.space ≡ old.space
   pub words_are : new.running.words ≡ old.running.words
   pub member_is : IsSameMember old.member new.member
 
--- its own calls need no more
+-- the guest is admitted: its own calls need no more
 abbrev pub IsAdmittedGuest : Visiting → Type 0
 IsAdmittedGuest guest = IsAdmitted guest.space guest.running.words guest.member
 
--- the process is a member of the same space, which was given to no other
+-- the process has a member of the same space that was given to no other
 pub record IsFurtherGuest (old new : Visiting) (running : Running) (child : Visiting) : Type 0 where
   pub space_is : child.space ≡ old.space
   pub running_is : child.running ≡ running

@@ -1,5 +1,5 @@
--- What clauses of a program may cite, under this crate's name alone. A file whose name two crates
--- have has the name of what it speaks of before it.
+-- What clauses of a program may cite, under this crate's name alone. Where two crates have a file
+-- of one name, the file is named here with its subject before that name.
 pub mod Words
 pub mod Plans
 pub mod Forkings

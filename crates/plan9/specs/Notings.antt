@@ -1,5 +1,5 @@
 -- What becomes of one kind of note, and of the note of a write on a closed pipe. After notify(2)
--- and write(2); own: the other notes stay, and a writer may take its own back.
+-- and write(2). Own: the other notes stay, and a writer may take its own note back.
 use Rattle.std.specs.Prelude.{◌≡◌, ◌≢◌, ◌&&◌, ◌<◌, ◌≤◌, ◌↔◌, not, ℕ, Bool, List, length}
 use Rattle.std.specs.Prelude.{Result, Err, IsErrOf}
 use Rattle.sync_base.specs.declared.fault.Fault.{Fault}
@@ -17,7 +17,7 @@ use Rattle.pipe_dev.specs.Rendezes.{OwnsRow}
 use Rattle.plan9.specs.declared.pipes.Writer.{Writer}
 use Rattle.plan9.specs.Streams.{IsSameWriter, WritesOnce}
 
--- these notes are those that came, but for the one of this kind
+-- these notes are those that came, without the note of this kind
 abbrev pub AreOthers : Note → NoteSet → NoteSet → Type 0
 AreOthers note came left =
     (kind : Note) → holds left kind ≡ (holds came kind && not (is_same_note note kind))
@@ -27,13 +27,13 @@ pub record ArePending (left : NoteSet) (before after : Process) : Type 0 where
   pub none : left ≡ no_notes → after ≡ before
   pub some : left ≢ no_notes → after ≡ notes before (pid_in before) left
 
--- and the process did nothing but that
+-- and the process did nothing else
 pub record Keeps (left : NoteSet) (old new : Running) : Type 0 where
   pub words_are : new.words ≡ old.words
   pub pending : ArePending left old.process new.process
 
--- It took the notes that were pending, these; it says whether one of this kind was among them; and
--- the others are pending again.
+-- It took the notes that were pending; it says whether a note of this kind was among them; and the
+-- others are pending again.
 pub record TakesNote (note : Note) (old : Running) (was : Bool) (new : Running) : Type 0 where
   pub words_are : new.words ≡ old.words
   pub came : NoteSet
@@ -50,13 +50,13 @@ pub record TakesItsNoteBack (old : Writer) (bytes : List ℕ) (new : Writer) : T
   pub was : Bool
   pub took : TakesNote ClosedPipe told.proc was new.proc
 
--- by its answer: with any but `Hungup` it is a write
+-- by the answer: with any answer but `Hungup` it is a write
 abbrev pub LeavesNoNote : Writer → List ℕ → Result ℕ Fault → Writer → Type 0
 LeavesNoNote old bytes (Err fault.Hungup) new = TakesItsNoteBack old bytes new
 LeavesNoNote old bytes answer new = WritesOnce old bytes answer new
 
--- What a write did that leaves no note. One above the atomic size is refused first, and then one by
--- a process of a kernel that does not own all the Rendez of the direction.
+-- What a write did that leaves no note. A write above the atomic size is refused first, and then a
+-- write by a process of a kernel that does not own all the Rendez of the direction.
 pub record WritesUnnoted (old : Writer) (bytes : List ℕ) (answer : Result ℕ Fault)
     (new : Writer) : Type 0 where
   pub too_big : IsErrOf answer fault.TooBig ↔ (ATOMIC_SIZE < length bytes)

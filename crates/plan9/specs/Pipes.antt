@@ -7,7 +7,7 @@ use Rattle.sleep_wakeup.specs.Kernel.{Running, Unused, next_process, one_pid_les
 use Rattle.pipe_dev.specs.Ends.{WriteSide}
 use Rattle.plan9.specs.declared.pipes.Writer.{Writer}
 
--- so many pids are left
+-- this many pids are left
 abbrev pub HasPids : Unused → ℕ → Type 0
 HasPids unused count = (unused.pids.next + count) ≤ procs_of unused.words
 
@@ -30,7 +30,7 @@ ends_of writers = map (λ writer. writer.end) writers
 abbrev pub procs_of_writers : List Writer → List Running
 procs_of_writers writers = map (λ writer. writer.proc) writers
 
--- each of these ends has a process of its own, the next ones of the roster
+-- each of these ends has a process of its own, which are the next ones of the roster
 pub record HaveEnds (before : Unused) (parent : ℕ) (ends : List WriteSide) (writers : List Writer)
     (after : Unused) : Type 0 where
   pub ends_are : ends_of writers ≡ ends

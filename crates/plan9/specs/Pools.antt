@@ -1,4 +1,4 @@
--- What clauses see of a pool, and of those who hold its units.
+-- What clauses see of a pool, and of the holders of its units.
 use Rattle.std.specs.Prelude.{◌≡◌, ◌⊎◌, ◌≤◌, ◌<◌, ◌+◌, ⊤, ℕ, Bool, false, if◌then◌else◌, List}
 use Rattle.std.specs.Prelude.{◌++◌, [], ◌∷◌, length, map, Option, Some, None, Result, Ok, Err}
 use Rattle.std.specs.List.{AllByRecursion}
@@ -31,12 +31,12 @@ pub record Holding : Type 0 where
   pub running : Running
   pub seat : SemaSeat
 
--- nobody has the seat, or it is one of the semaphore's that waits for nothing
+-- nobody has the seat, or it is one of the semaphore's that does not wait
 abbrev pub IsSpareOf : Sema → Option SemaSeat → Type 0
 IsSpareOf sema None = ⊤
 IsSpareOf sema (Some seat) = IsSemaSeatOf sema seat
 
--- the seat is one of the semaphore's that waits for nothing, and its Rendez are of this kernel
+-- the seat is one of the semaphore's that does not wait, and its Rendez are of this kernel
 pub record IsSeated (sema : Sema) (words : Words) (seat : SemaSeat) : Type 0 where
   pub seat_is : IsSemaSeatOf sema seat
   pub row : OwnsRow sema words
@@ -48,7 +48,7 @@ IsNewPool roster value procs pool =
 
 -- ---- who holds
 
--- where a holder's call stands
+-- the state of a holder's call
 abbrev pub holder_point : Holding → Point SemaSeat
 holder_point holding = point holding.seat holding.running
 
@@ -58,16 +58,16 @@ pub record IsSameHolder (old new : Holding) : Type 0 where
   pub words_are : new.running.words ≡ old.running.words
   pub number_is : number_of new.seat.seat ≡ number_of old.seat.seat
 
--- it is seated: its own calls need no more
+-- the holder is seated: its own calls need no more
 abbrev pub IsSeatedHolder : Holding → Type 0
 IsSeatedHolder holding = IsSeated holding.sema holding.running.words holding.seat
 
--- what semacquire answers where it waits
+-- the answer of semacquire where it waits
 abbrev pub got : Result ⊤ Fault → Result Semacquired Fault
 got (Ok unit) = Ok sema.Acquired
 got (Err fault) = Err fault
 
--- and where it does not
+-- and the answer where it does not
 abbrev pub got_now : Bool → Result Semacquired Fault
 got_now now = Ok (if now then sema.Acquired else sema.NotNow)
 
@@ -78,7 +78,7 @@ WhyNotFirst pool running fault.NoRendez = ¬ OwnsRow pool.sema running.words
 WhyNotFirst pool running fault.NoProc = OwnsRow pool.sema running.words × (pool.spare ≡ None)
 WhyNotFirst pool running other = ⊥
 
--- this is the seat that nobody had, and it is one that the process may have
+-- this is the seat that nobody had, and the process may have it
 pub record IsFirstSeat (pool : Pooled) (running : Running) (seat : SemaSeat) : Type 0 where
   pub seat_is : Some seat ≡ pool.spare
   pub at_sema : IsSemaSeatOf pool.sema seat
@@ -133,7 +133,7 @@ pub record IsFurtherVacancy (old new : Holding) (vacancy : Vacancy) : Type 0 whe
   pub sema_is : vacancy.sema ≡ old.sema
   pub given : Splits old.sema.lock old.seat.seat new.seat.seat vacancy.seat.seat
 
--- the process has the seat that none had
+-- the process has the seat that no process had
 pub record IsFilled (vacancy : Vacancy) (running : Running) (holding : Holding) : Type 0 where
   pub sema_is : holding.sema ≡ vacancy.sema
   pub running_is : holding.running ≡ running
@@ -146,7 +146,7 @@ pub record ForksHolder (before : Unused) (old new : Holding) (child : Holding) (
   pub further : IsFurtherHolder old new (next_process before) child
   pub roster : after ≡ one_pid_less old.running.process.pid false before
 
--- who forks, and the roster of which it takes the child
+-- the process that forks, and the roster from which it takes the child
 pub record Forking : Type 0 where
   pub roster : Unused
   pub parent : Holding
@@ -163,8 +163,8 @@ pub record IsUnseated (old new : Forking) (unseated : Unseated) : Type 0 where
   pub further : IsFurtherVacancy old.parent new.parent unseated.seat
   pub roster : new.roster ≡ one_pid_less old.parent.running.process.pid false old.roster
 
--- Why it does not: no pid is left, or all seats were given, and then no pid is used up. Or the
--- roster is of another kernel, and then the child and its seat come back.
+-- Why there is no new holder: no pid is left, or all seats were given, and then no pid is used up;
+-- or the roster is of another kernel, and then the child and its seat come back.
 abbrev pub WhyNoFork : Forking → Forking → Option Unseated → Fault → Type 0
 WhyNoFork old new None fault.NoProc =
     (new.roster ≡ old.roster)
@@ -186,19 +186,19 @@ pub record AreChildren (before : Unused) (parent : ℕ) (holders : List Holding)
   pub procs_are : procs_of_holders holders ≡ children (length holders) parent before
   pub roster : after ≡ less_children (length holders) parent before
 
--- one or more are asked for, and there are seats for so many, and pids for all but one
+-- at least one holder is asked for, and there are enough seats, and pids for all holders but one
 pub record MayHold (pool : Pooled) (unused : Unused) (count : ℕ) : Type 0 where
   pub one : 0 < count
   pub seats : count ≤ pool.sema.procs
   pub pids : unused.pids.next + count ≤ procs_of unused.words + 1
 
--- one child more holds
+-- one more child holds
 pub record ForksOneMore (old new : Forking) : Type 0 where
   pub child : Holding
   pub forks : ForksHolder old.roster old.parent new.parent child new.roster
   pub same : IsSameParent old.parent new.parent
 
--- some children hold, fewer than so many with their parent, and then one does not
+-- some children hold, which with their parent are fewer than this many, and then a child can't hold
 pub record StopsForking (count : ℕ) (start : Forking) (why : Fault) (stop : Forking) :
     Type 0 where
   pub times : ℕ
@@ -208,7 +208,7 @@ pub record StopsForking (count : ℕ) (start : Forking) (why : Fault) (stop : Fo
   pub unseated : Option Unseated
   pub stopped : WhyNoFork before stop unseated why
 
--- who asks for so many holders, and of what
+-- a call that asks for holders: of which pool, by which process, from which roster, and how many
 pub record Gathering : Type 0 where
   pub pool : Pooled
   pub running : Running
@@ -219,8 +219,8 @@ abbrev pub gathering : Pooled → Running → Unused → ℕ → Gathering
 gathering pool running roster count =
     record { pool = pool; running = running; roster = roster; count = count }
 
--- So many hold units of the pool, in the kernel of the roster but for the one that asks: first its
--- children, and after them itself, as it was.
+-- This many hold units of the pool, in the kernel of the roster but for the process that asks:
+-- first its children, and then the process itself, as it was.
 pub record AreHolders (asked : Gathering) (holders : List Holding) (after : Unused) :
     Type 0 where
   pub count_is : length holders ≡ asked.count
@@ -231,19 +231,19 @@ pub record AreHolders (asked : Gathering) (holders : List Holding) (after : Unus
   pub made : AreChildren asked.roster asked.running.process.pid others after
   pub procs_are : procs_of_holders holders ≡ procs_of_holders others ++ asked.running ∷ []
 
--- no process is made: none are asked for, or too many
+-- no process is made: no holders are asked for, or too many
 pub record AsksTooMany (asked : Gathering) (after : Unused) (why : Fault) : Type 0 where
   pub many : ¬ MayHold asked.pool asked.roster asked.count
   pub why_is : why ≡ fault.NoProc
   pub unused : after ≡ asked.roster
 
--- none is made: there is no memory for the list
+-- no process is made: there is no memory for the list
 pub record LacksMemory (asked : Gathering) (after : Unused) (why : Fault) : Type 0 where
   pub may : MayHold asked.pool asked.roster asked.count
   pub why_is : why ≡ fault.Memory
   pub unused : after ≡ asked.roster
 
--- none is made: the process can't be the first
+-- no process is made: the process can't be the first
 pub record HasNoFirst (asked : Gathering) (after : Unused) (why : Fault) : Type 0 where
   pub may : MayHold asked.pool asked.roster asked.count
   pub why_is : WhyNotFirst asked.pool asked.running why
@@ -257,14 +257,14 @@ pub record HasTooFew (asked : Gathering) (after : Unused) (why : Fault) : Type 0
   pub first_is : IsFirstHolder asked.pool asked.running first
   pub stops : StopsForking asked.count (forking asked.roster first) why (forking after last)
 
--- what stands against it before a child is made, in this order
+-- why there are no holders, before a child is made, in this order
 abbrev pub WhyNoneBegin : Gathering → Fault → Type 0
 WhyNoneBegin asked why =
     AsksTooMany asked asked.roster why
     ⊎ (LacksMemory asked asked.roster why
     ⊎ HasNoFirst asked asked.roster why)
 
--- what stands against it, in this order
+-- why there are no holders, in this order
 abbrev pub WhyNoHolders : Gathering → Unused → Fault → Type 0
 WhyNoHolders asked after why =
     AsksTooMany asked after why

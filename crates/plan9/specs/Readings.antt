@@ -1,4 +1,4 @@
--- What reads do that go on, after readn in read(2), in the words of one read.
+-- What reads do that go on, after readn in read(2), said of single reads.
 use Rattle.std.specs.Prelude.{◌≡◌, ◌≢◌, ◌↔◌, ◌+◌, ◌++◌, ◌≤◌, ⊤, ℕ, List, [], length, take, drop}
 use Rattle.std.specs.Prelude.{Option, Some, None, Result, Ok, Err, IsErrOf}
 use Rattle.sync_base.specs.declared.fault.Fault.{Fault}
@@ -26,19 +26,19 @@ ReadsBy old buffer answer new buffer' =
 
 -- ---- piece by piece
 
--- what read answered where a piece of so many bytes came, or none at the end
+-- the answer of read where a piece of this many bytes came, or none at the end
 abbrev pub read_answer : Result (Option ℕ) Fault → Result ReadAnswer Fault
 read_answer (Ok (Some count)) = Ok (read.Got count)
 read_answer (Ok None) = Ok read.End
 read_answer (Err fault) = Err fault
 
--- the piece lies in the buffer
+-- the piece is in the buffer
 abbrev pub LiesIn : List ℕ → Result (Option ℕ) Fault → Type 0
 LiesIn buffer (Ok (Some count)) = count ≤ length buffer
 LiesIn buffer other = ⊤
 
--- One read, which was answered so. A buffer of no bytes is refused first, and then a process of a
--- kernel that does not own all the Rendez of the direction.
+-- One read, with this answer. A buffer of no bytes is refused first, and then a process of a kernel
+-- that does not own all the Rendez of the direction.
 pub record ReadsPiece (old : Reader) (buffer : List ℕ) (answer : Result (Option ℕ) Fault)
     (new : Reader) (buffer' : List ℕ) : Type 0 where
   pub bad_count : IsErrOf answer BadCount ↔ (buffer ≡ [])
@@ -59,7 +59,7 @@ pub record Filling : Type 0 where
 abbrev pub filling : Reader → List ℕ → ℕ → Filling
 filling reader buffer count = record { reader = reader; buffer = buffer; count = count }
 
--- a read into what is left of the buffer, after what is filled, which was answered so
+-- a read into what is left of the buffer, after what is filled, with this answer
 pub record ReadsAfter (old : Filling) (answer : Result ReadAnswer Fault) (reader : Reader)
     (buffer : List ℕ) : Type 0 where
   pub rest : List ℕ
@@ -77,7 +77,7 @@ abbrev pub stopped : Option Fault → Result ReadAnswer Fault
 stopped None = Ok read.End
 stopped (Some fault) = Err fault
 
--- no piece came, after so many bytes
+-- no piece came, after this many bytes
 pub record Stops (before : Filling) (short : ShortRead) (reader : Reader) (buffer : List ℕ) :
     Type 0 where
   pub count_is : short.count ≡ before.count

@@ -6,12 +6,12 @@ use Rattle.pipe_dev.specs.Ends.{WriteSide}
 use Rattle.plan9.specs.declared.refusals.Refused.{Refused}
 use Rattle.plan9.specs.declared.refusals.Unforked.{Unforked}
 
--- it was refused for such a reason, and comes back as it was
+-- the process was refused for such a reason, and comes back as it was
 pub record ComesBack (Why : Fault → Type 0) (running : Running) (refused : Refused) : Type 0 where
   pub why : Why refused.fault
   pub proc_is : refused.proc ≡ running
 
--- they were refused for such a reason, and come back in their order
+-- the ends were refused for such a reason, and come back in their order
 pub record ComeBack (Why : Fault → Type 0) (ends : List WriteSide) (refused : Unforked) :
     Type 0 where
   pub why : Why refused.fault

@@ -32,17 +32,17 @@ use Rattle.plan9.specs.Pools.{Holding, IsNewPool, IsFirstHolder, IsSameHolder}
 use Rattle.plan9.specs.Pools.{ForksHolder, got, got_now, holder_point}
 use Rattle.plan9.specs.Readings.{ReadsBy}
 
--- the end that is shared, as it was before
+-- the end that is shared, as it was at first
 abbrev pub first_end : Shared → ReadSide
 first_end shared = shared.place.value
 
--- and that of a process that shares it
+-- and the end of a process that shares it
 abbrev pub end_of : Sharer → ReadSide
 end_of sharer = sharer.place.now.value
 
 -- ---- who shares
 
--- a new pool of one unit, whose holder has the turn, and this end; so many Rendez are used up
+-- a new pool of one unit, whose holder has the turn, and this end; this many Rendez are used up
 pub record IsNewShared (before : Unused) (end : ReadSide) (procs : ℕ) (shared : Shared)
     (after : Unused) : Type 0 where
   pub in_range : IsProcCount procs
@@ -51,14 +51,14 @@ pub record IsNewShared (before : Unused) (end : ReadSide) (procs : ℕ) (shared 
   pub end_is : first_end shared ≡ end
   pub roster : after ≡ rendez_less procs before
 
--- it was refused, as a semaphore of one unit is, and no Rendez is used up; the end comes back
+-- the end was refused, as a semaphore of one unit is, and no Rendez is used up; the end comes back
 pub record IsNotShared (before : Unused) (end : ReadSide) (procs : ℕ) (refused : Unshared)
     (after : Unused) : Type 0 where
   pub why : WhyNotOpened before 1 procs refused.fault
   pub end_is : refused.end ≡ end
   pub roster : after ≡ before
 
--- the process is the first that has turns at the end
+-- the process is the first with turns at the end
 pub record IsFirstSharer (shared : Shared) (running : Running) (sharer : Sharer) : Type 0 where
   pub first : IsFirstHolder shared.turns running sharer.holder
   pub end_is : end_of sharer ≡ first_end shared
@@ -95,12 +95,12 @@ abbrev pub AsksForTurn : Result ⊤ Fault → Holding → Holding → Type 0
 AsksForTurn answer old new =
     Semacquires true old.sema (holder_point old) (got answer) (holder_point new)
 
--- it asked for a turn, and waited for none
+-- it asked for a turn, and did not wait for it
 abbrev pub AsksNow : Bool → Holding → Holding → Type 0
 AsksNow has old new =
     Semacquires false old.sema (holder_point old) (got_now has) (holder_point new)
 
--- it gave the turn back, once, and woke who got it
+-- it gave the turn back, once, and woke the process that got it
 pub record GivesTurnBack (old new : Holding) : Type 0 where
   pub answer : Result ℕ Fault
   pub called : Releases old.sema 1 (holder_point old) answer (holder_point new)
@@ -117,7 +117,7 @@ buffers before after = record { before = before; after = after }
 abbrev pub reader : ReadSide → Running → Reader
 reader end proc = record { end = end; proc = proc }
 
--- one call of an end of this direction: of the one that lay there, which lies there again
+-- one call of an end of this direction: of the end that lay there, which lies there again
 pub record CallsShared (end : ReadSide) (old : Holding) (Call : Reader → Reader → Type 0)
     (new : Holding) : Type 0 where
   pub lay : ReadSide
@@ -128,14 +128,14 @@ pub record CallsShared (end : ReadSide) (old : Holding) (Call : Reader → Reade
   pub same : IsSameHolder old new
   pub seat_is : new.seat ≡ old.seat
 
--- and the end that lies there then is the one that was laid down
+-- and the end that lies there after the call is the one that was laid down
 pub record CallsAndLays (end : ReadSide) (old : Holding) (Call : Reader → Reader → Type 0)
     (laid : Receipt) (new : Holding) : Type 0 where
   pub calls : CallsShared end old Call new
   pub laid_is : IsLaid calls.lies laid
 
--- A read, which was answered so. A buffer of no bytes is refused first, and then a process of a
--- kernel that does not own all the Rendez of the direction.
+-- A read, with this answer. A buffer of no bytes is refused first, and then a process of a kernel
+-- that does not own all the Rendez of the direction.
 pub record ReadsOnce (buffer : Buffers) (answer : Result ReadAnswer Fault) (old new : Reader) :
     Type 0 where
   pub bad_count : IsErrOf answer BadCount ↔ (buffer.before ≡ [])
@@ -151,7 +151,7 @@ pub record ReadsBlockOnce (block : Buffers) (answer : Result ReadAnswer Fault)
       (calling old.end old.proc block.before) answer
       (calling new.end new.proc block.after)
 
--- what a read that doesn't wait did: a refused one nothing
+-- what a read that doesn't wait did; a refused read did nothing
 abbrev pub TriesBy : Reader → List ℕ → Result TryAnswer Fault → Reader → List ℕ → Type 0
 TriesBy old buffer (Ok answer) new buffer' =
     Tries (key_of old.end.queue) old.end.row (calling old.end old.proc buffer) answer
@@ -183,7 +183,7 @@ pub record HasNoTurn (Asks : Holding → Holding → Type 0) (old : Sharer) (buf
   pub asks : Asks old.holder new.holder
   pub buffer_same : buffer.after ≡ buffer.before
 
--- what a call in turn did, by its answer: a refused one got no turn, or called and was refused
+-- what a call in turn did, by its answer: a refused call got no turn, or called and was refused
 abbrev pub InTurn : (Buffers → Result ReadAnswer Fault → Reader → Reader → Type 0)
     → Sharer → Buffers → Result ReadAnswer Fault → Sharer → Type 0
 InTurn Call old buffer (Ok answer) new =
@@ -192,7 +192,8 @@ InTurn Call old buffer (Err why) new =
     HasNoTurn (AsksForTurn (Err why)) old buffer new
     ⊎ HasTurn (AsksForTurn (Ok tt)) old (Call buffer (Err why)) new
 
--- what a call did that waits for no turn: not yet is also the answer where another has the turn
+-- what a call did that does not wait for its turn: NotYet is also the answer where another process
+-- has the turn
 abbrev pub TriesInTurn : Sharer → Buffers → Result TryAnswer Fault → Sharer → Type 0
 TriesInTurn old buffer (Ok try.NotYet) new =
     HasNoTurn (AsksNow false) old buffer new

@@ -15,14 +15,14 @@ use Rattle.plan9.specs.declared.pipes.Reader.{Reader}
 use Rattle.plan9.specs.declared.pipes.Writer.{Writer}
 use Rattle.plan9.specs.Readings.{ReadsPiece}
 
--- the kind of error that a fault is; notes are of no kind that std's calls pass over
+-- the kind of error that a fault is; notes are no kind that std's calls pass over
 abbrev pub kind_of : Fault → ErrorKind
 kind_of fault.Memory = kind.OutOfMemory
 kind_of fault.Hungup = kind.BrokenPipe
 kind_of fault.DoubleSleep = kind.ResourceBusy
 kind_of other = kind.Other
 
--- the error is of the kind of this fault, which is kept beside it
+-- the error is of the kind of this fault, which is kept beside the error
 pub record IsErrorFor (fault : Fault) (kept : Option Fault) (error : Error) : Type 0 where
   pub kept_is : kept ≡ Some fault
   pub kind_is : error_kind error ≡ kind_of fault
@@ -45,12 +45,12 @@ Takes old answer new = ReadsPiece old.reader old.buffer answer new.reader new.bu
 abbrev pub PassesEmpty : Lent → Lent → Type 0
 PassesEmpty old new = Takes old (Ok (Some 0)) new
 
--- std says no bytes for the end
+-- in std no bytes stand for the end
 abbrev pub piece_or_end : ℕ → Option ℕ
 piece_or_end zero = None
 piece_or_end (suc count) = Some (suc count)
 
--- how a read of the stream ends, where this is the last fault
+-- how a read of the stream ends, with this as the last fault
 abbrev pub EndsTaking : Lent → Result ℕ Error → Option Fault → Lent → Type 0
 EndsTaking old (Ok count) kept new = Takes old (Ok (piece_or_end count)) new
 EndsTaking old (Err error) kept new =
@@ -70,7 +70,7 @@ pub record TakesNothing (old : Lent) (answer : Result ℕ Error) (new : Lent) : 
   pub answer_is : answer ≡ Ok 0
   pub same : new ≡ old
 
--- what a read of the stream did, where this is the last fault then
+-- what a read of the stream did, with this as the last fault after it
 abbrev pub Streams : Lent → Result ℕ Error → Option Fault → Lent → Type 0
 Streams old answer kept new = TakesNothing old answer new ⊎ TakesNext old answer kept new
 
@@ -83,16 +83,16 @@ pub record WritesNothing (old : Writer) (bytes : List ℕ) (answer : Result ℕ 
   pub answer_is : answer ≡ Ok 0
   pub same : new ≡ old
 
--- the bytes of one write: those in front, up to the atomic size
+-- the bytes of one write: the first bytes, up to the atomic size
 abbrev pub front_of : List ℕ → List ℕ
 front_of bytes = take (min (length bytes) ATOMIC_SIZE) bytes
 
--- one write of these bytes, which was answered so
+-- one write of these bytes, with this answer
 abbrev pub WritesOnce : Writer → List ℕ → Result ℕ Fault → Writer → Type 0
 WritesOnce old bytes answer new =
     Writes (call_of old.end bytes) (writer_of old.end old.proc) answer (writer_of new.end new.proc)
 
--- how that is told, where this is the last fault then: so many bytes, or an error
+-- the answer to that write, with this as the last fault after it: this many bytes, or an error
 abbrev pub EndsWriting :
     Writer → List ℕ → Result ℕ Error → Option Fault → Writer → Type 0
 EndsWriting old bytes (Ok count) kept new =

@@ -14,22 +14,23 @@ use Rattle.plan9.specs.declared.ticker.RealTime.{RealTime}
 use Rattle.plan9.specs.declared.ticker.Ticker.{Ticker}
 use Rattle.plan9.specs.Watches.{IsSameWatch}
 
--- it took the notes that were pending, these, and is where it was
+-- it took the notes that were pending, and is otherwise as it was
 pub record Looks (old : Running) (came : NoteSet) (new : Running) : Type 0 where
   pub words_are : new.words ≡ old.words
   pub took : new.process ≡ drains old.process came
 
--- a beat goes on, up to the last number, and says where it is
+-- a beat goes on, up to the last number, and returns where it is
 pub record IsBeat (old moment new : ℕ) : Type 0 where
   pub on : old + 1 < 2 ^ 64 → old < new
   pub moment_is : moment ≡ new
 
--- an atomic that is shown is this one
+-- moments are shown in an atomic, which is this one
 abbrev pub IsShownAt : {Atomic : Type 0} → Atomic → Option (Bor Atomic) → Type 0
 IsShownAt place None = ⊥
 IsShownAt place (Some shown) = shown.now ≡ place
 
--- a beat that begins where this real time began, at the moment 0, and shows there what it tells
+-- a beat that begins where this real time began, at the moment 0, and shows there the moments that
+-- it gives
 pub record IsBeatOf {Clock : Type 0} (time : RealTime) (beat : Beat Clock) : Type 0 where
   pub began_is : beat.began ≡ time.began
   pub from_zero : beat.now ≡ 0

@@ -8,7 +8,7 @@ pub record Vacancy : Type 0 where
   pub sema : Sema
   pub seat : SemaSeat
 
--- the Rendez of this semaphore are so many from this one on
+-- the Rendez of this semaphore are this many from this one on
 pub record IsRowOf (sema : Sema) (first procs : ℕ) : Type 0 where
   pub first_is : sema.first ≡ first
   pub procs_are : sema.procs ≡ procs

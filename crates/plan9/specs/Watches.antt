@@ -32,7 +32,7 @@ pub record Watching : Type 0 where
   pub timers : Timers
   pub seat : TimerSeat
 
--- nobody has the seat, or it is one of the timers' whose timer is cancelled
+-- nobody has the seat, or it is one of the timers' seats with its timer cancelled
 abbrev pub IsSpareTimer : Timers → Option TimerSeat → Type 0
 IsSpareTimer timers None = ⊤
 IsSpareTimer timers (Some seat) = IsTimerSeatOf timers seat
@@ -67,26 +67,26 @@ abbrev pub WhyNoWatch : Watching → Watching → Fault → Type 0
 WhyNoWatch old new fault.NoProc = KnowsAllGiven old.timers.lock old.seat.seat new.seat.seat
 WhyNoWatch old new other = ⊥
 
--- ---- where a call with a watch stands
+-- ---- the state of a call with a watch
 
--- that of a holder
+-- the state of a holder's call
 abbrev pub watched_point : Holding → Watching → TimedPoint SemaSeat
 watched_point holding watch = run_point holding.seat watch.seat holding.running
 
--- that of a guest
+-- the state of a guest's call
 abbrev pub watched_guest : Visiting → Watching → TimedPoint Member
 watched_guest guest watch = run_point guest.member watch.seat guest.running
 
--- that of a process alone, which sleeps
+-- the state of a sleep of a process alone
 abbrev pub watched_sleeper : Running → Watching → TimedPoint Unit
 watched_sleeper proc watch = run_point tt watch.seat proc
 
--- that of a reader, with what its buffer holds
+-- the state of a reader's call, with what its buffer holds
 abbrev pub watched_read : Reader → Watching → List ℕ → TimedPoint Lending
 watched_read reader watch buffer =
     run_call (calling reader.end reader.proc buffer) watch.seat
 
--- that of a writer
+-- the state of a writer's call
 abbrev pub watched_write : Writer → Watching → TimedPoint (Account Entry)
 watched_write writer watch = run_writer writer.end watch.seat writer.proc
 

@@ -1,4 +1,4 @@
-//! A clock that is told the time, and seats at its timers: each has the timers with it.
+//! A clock to which a process says the time, and seats at its timers: each has the timers with it.
 use sleep_wakeup::Proc;
 use std::alloc::Global;
 use std::marker::Model;
@@ -24,7 +24,7 @@ impl Model for Clock {
 }
 
 /// A seat at the timers of a clock, with one timer. `Holder::acquire_within` waits by it, and a
-/// process that knows the time tells it with `tick`. One thread has it at a time.
+/// process that knows the time calls its `tick`. One thread has it at a time.
 #[derive(Drop)]
 pub struct Watch<'t> {
     pub(crate) timers: &'t Timers,
@@ -48,8 +48,8 @@ impl Clock {
     ghost use Rattle.timer_list.specs.Timers.{WhyNoTimers};
     ghost use Rattle.plan9.specs.Watches.{IsFirstWatch, IsNewClock, IsTaken};
 
-    /// A clock for so many processes, the one that ticks among them. Refuses, in this order, as
-    /// `NoProc` where they are not from 1 to 1,024, and `Memory`. Doesn't wait.
+    /// A clock for this many processes, including the process that ticks. Refuses, in this order,
+    /// as `NoProc` where they are not from 1 to 1,024, and `Memory`. Doesn't wait.
     pub fn new(alloc: Global, procs: u64) -> Result<Clock, Fault>
         // Refused first.
         ensures in_range { OnOk result (IsProcCount procs) }
@@ -112,10 +112,10 @@ impl<'t> Watch<'t> {
         })
     }
 
-    /// Tells that it is now this moment: each timer whose deadline is come expires, and its process
-    /// is posted the note `expired`. Answers how many expired: at most as many as there are
-    /// processes. Own; tsemacquire in semacquire(2) has a clock of its own.
-    /// It waits for the timers' lock. Takes no memory.
+    /// Says that it is now this moment: each timer whose deadline has come expires, and its process
+    /// is posted the note `expired`. Returns how many expired: at most as many as there are
+    /// processes. Own; tsemacquire in semacquire(2) has a clock of its own. It waits for the
+    /// timers' lock. Takes no memory.
     pub fn tick<R: Wait>(&mut self, rt: &R, proc: &mut Proc<'_>, now: u64) -> u64
         ensures same { IsSameWatch self.old self.new }
         ensures words { proc.new.words ≡ proc.old.words }
@@ -127,13 +127,14 @@ impl<'t> Watch<'t> {
 
     /// Puts its process to sleep until the level of the Rendez is above the threshold, a wakeup
     /// takes it, notes come, or a tick comes at the moment `now` + `ms` or later; that moment is at
-    /// most `u64::MAX`. After tsleep of the kernel; the tick is the library's own. As a sleep that
-    /// ends well it says that the condition held or a wakeup came, so a caller tests again.
+    /// most `u64::MAX`. After tsleep of the kernel; the tick is the library's own. As with a sleep
+    /// that ends well, a good answer says that the condition held or a wakeup came, so a caller
+    /// tests again.
     ///
     /// Refuses, in this order, as `NoRendez`, as `BadLevel` where no level is above the threshold,
     /// as `DoubleSleep` where another process sleeps there, as `Interrupted` with the notes that
-    /// ended it, which are no longer pending, and as `TimedOut` where a tick did so and no other
-    /// note came. With any other answer other notes that came are pending again. Where a tick has
+    /// ended it, which are no longer pending, and as `TimedOut` where a tick ended it and no other
+    /// note came. With any other answer, other notes that came are pending again. Where a tick has
     /// taken its timer, it waits for that tick's note before it answers, so that no late expiry
     /// reaches a later sleep. It waits for the timers' lock. Takes no memory.
     pub fn sleep_within<R: Wait>(

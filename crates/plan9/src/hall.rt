@@ -118,8 +118,8 @@ impl Hall {
     };
     ghost use Rattle.plan9.specs.Refusals.{ComesBack};
 
-    /// A hall for so many processes. It takes as many Rendez.
-    /// Refuses, in this order, as `NoProc`, `NoRendez` and `Memory`. Doesn't wait.
+    /// A hall for this many processes. It takes as many Rendez. Refuses, in this order, as
+    /// `NoProc`, `NoRendez` and `Memory`. Doesn't wait.
     pub fn new(alloc: Global, roster: &mut Roster<'_>, procs: u64) -> Result<Hall, Fault>
         // Refused first, and then no Rendez is used up.
         ensures in_range { OnOk result (IsProcCount procs) }
@@ -151,8 +151,8 @@ impl Hall {
     }
 
     /// The first guest. Refuses, in this order, as `NoRendez` a process whose kernel does not own
-    /// all the Rendez of the hall, and as `NoProc` where another was the first before; the process
-    /// comes back. Takes no memory and doesn't wait.
+    /// all the Rendez of the hall, and as `NoProc` where another process was the first before; the
+    /// process comes back. Takes no memory and doesn't wait.
     pub fn first<'s, 'k>(&'s mut self, proc: Proc<'k>) -> Result<Guest<'s, 'k>, Refused<'k>>
         ensures fault { IfErr result
             (ComesBack (WhyNotFirstGuest self.old proc.entry) proc.entry) }
@@ -204,7 +204,7 @@ impl<'s, 'k> Guest<'s, 'k> {
       guest_point,
     };
 
-    /// Meets another guest of the hall that calls with the same tag, and answers its value; the
+    /// Meets another guest of the hall that calls with the same tag, and returns its value; the
     /// other gets this one. The first of the two waits for the second. After rendezvous(2).
     ///
     /// Refuses, in this order, as `Worn` where it would wait and no more meetings of the member
@@ -227,7 +227,7 @@ impl<'s, 'k> Guest<'s, 'k> {
         self.rendezvous_probed(rt, tag, value, &mut NoProbe)
     }
 
-    /// A `rendezvous` that tells a probe of its points, as `TagSpace::rendezvous_probed` does: 1
+    /// A `rendezvous` that calls its probe at its points, as `TagSpace::rendezvous_probed` does: 1
     /// before it calls, 2 before and 3 after each sleep, 4 at the end.
     pub fn rendezvous_probed<R: Wait, P: Probe>(
         &mut self,
@@ -252,7 +252,8 @@ impl<'s, 'k> Guest<'s, 'k> {
     }
 
     /// A `rendezvous` that answers `Ok(INTERRUPTED)` in place of `Interrupted`, after
-    /// rendezvous(2). A partner that gives this value can't be told from an interruption.
+    /// rendezvous(2). A caller can't distinguish a partner that gives this value from an
+    /// interruption.
     pub fn rendezvous_word<R: Wait>(&mut self, rt: &R, tag: Tag, value: u64) -> Result<u64, Fault>
         ensures same { IsSameGuest self.old self.new }
 
@@ -268,10 +269,11 @@ impl<'s, 'k> Guest<'s, 'k> {
     /// that moment is at most `u64::MAX`. Own; rendezvous(2) waits as long as it takes.
     ///
     /// Refuses, in this order, as `Worn` and `DoubleSleep` as `rendezvous` does, `Interrupted` with
-    /// the notes that ended the wait, and `TimedOut` where a tick did so and no other note came; a
-    /// refused call is in no exchange, and nobody meets it later. With any other answer other notes
-    /// that came are pending again. Where a tick has taken its timer, it waits for that tick's note
-    /// before it answers, so that no late expiry reaches a later sleep. Takes no memory.
+    /// the notes that ended the wait, and `TimedOut` where a tick ended it and no other note came;
+    /// a refused call is in no exchange, and nobody meets it later. With any other answer, other
+    /// notes that came are pending again. Where a tick has taken its timer, it waits for that
+    /// tick's note before it answers, so that no late expiry reaches a later sleep. Takes no
+    /// memory.
     pub fn rendezvous_within<R: Wait>(
         &mut self,
         rt: &R,
@@ -302,8 +304,8 @@ impl<'s, 'k> Guest<'s, 'k> {
         self.rendezvous_within_probed(rt, watch, now, ms, tag, value, &mut NoProbe)
     }
 
-    /// A `rendezvous_within` that tells a probe of its points: 2 before and 3 after each sleep for
-    /// a partner.
+    /// A `rendezvous_within` that calls its probe at its points: 2 before and 3 after each sleep
+    /// for a partner.
     pub fn rendezvous_within_probed<R: Wait, P: Probe>(
         &mut self,
         rt: &R,
@@ -384,17 +386,16 @@ impl<'s, 'k> Guest<'s, 'k> {
         self.proc.pid()
     }
 
-    /// The Rendez in which its process waits for a partner: the first of its hall, and the number
-    /// of its member on. Takes no memory and doesn't wait.
+    /// The Rendez in which its process waits for a partner: the first Rendez of its hall, plus the
+    /// number of its member. Takes no memory and doesn't wait.
     pub fn rendez(&self) -> RendezId
         ensures { result ≡ rendez_of_member self.now.space (number_of self.now.member) }
     {
         self.member.rendez()
     }
 
-    /// Posts notes to a process, which end its sleep or are pending until its next one. After
-    /// postnote(2).
-    /// Refuses as `NoProc`. Takes no memory and doesn't wait.
+    /// Posts notes to a process: they end its sleep, or are pending until its next one. After
+    /// postnote(2). Refuses as `NoProc`. Takes no memory and doesn't wait.
     pub fn postnote(&mut self, pid: Pid, set: NoteSet) -> Result<(), Fault>
         // Refused first, and then nothing changes.
         ensures allowed { OnOk result (pid.0 < procs_of self.old.running.words) }
@@ -420,8 +421,8 @@ impl<'s, 'k> Guest<'s, 'k> {
         self.proc.notes()
     }
 
-    /// Its member is one of its space's, whose Rendez are of its kernel: so each call of it may be
-    /// made. It is there for the specification, and does nothing.
+    /// Its member is one of its space's, and the Rendez of the space are of its kernel: so each
+    /// call of it may be made. This function is there for the specification, and does nothing.
     pub fn is_admitted(&self)
         ensures { IsAdmittedGuest self.now }
     {

@@ -1,10 +1,10 @@
-//! All that a program names: the library's types and calls in one order, and processes that have
-//! what belongs together.
-//! Read the lists below from the top: what every call speaks of; a kernel and its processes, with
-//! `plan` and `forking`; what comes back where a process is refused, with `refusals`, and faults in
-//! words, with `texts`; pipes, with `pipes`, `noting`, `reading`, `sharing`, `place` and `streams`;
-//! semaphores, with `pool` and `vacant`; timers, with `clock` and `ticker`; tag spaces, with
-//! `hall` and `rforking`; and what else a caller may prove.
+//! All that a program names: the library's types and calls in one order, and types that put a
+//! process together with what it calls by. Read the lists below from the top: what every call
+//! speaks of; a kernel and its processes, with `plan` and `forking`; what comes back where a
+//! process is refused, with `refusals`, and faults in words, with `texts`; pipes, with `pipes`,
+//! `noting`, `reading`, `sharing`, `place` and `streams`; semaphores, with `pool` and `vacant`;
+//! timers, with `clock` and `ticker`; tag spaces, with `hall` and `rforking`; and what else a
+//! caller may prove.
 #![tactic(auto)]
 
 pub mod clock;

@@ -7,8 +7,8 @@ use std::alloc::Global;
 use std::sync::Wait;
 use sync_base::{Fault, Note, NoteSet};
 
-/// Takes the note of this kind alone, and says whether it was pending: other notes that were are
-/// pending again. Own; notify(2) gives a handler one note after the other. Takes no memory and
+/// Takes only the note of this kind, and says whether it was pending: other notes that were pending
+/// are pending again. Own; notify(2) gives a handler one note after the other. Takes no memory and
 /// doesn't wait.
 pub fn take_note(proc: &mut Proc<'_>, note: Note) -> bool
     ensures { TakesNote note proc.old result proc.new }
@@ -28,12 +28,12 @@ fn keep(proc: &mut Proc<'_>, left: NoteSet)
     }
 }
 
-/// A `write` at this end that leaves no note where the direction is hung up, so that no later wait
-/// of the process is ended by it. It waits, and takes memory, as `write` does.
+/// A `write` at this end that leaves no note where the direction is hung up, so that this note ends
+/// no later wait of the process. It waits, and takes memory, as `write` does.
 ///
 /// Refuses as `write` does. With `Hungup` it takes the note of a write on a closed pipe back, also
-/// one that was pending before, since a process has at most one of a kind; other notes that were
-/// pending are pending again. After write(2) and notify(2); own: that a writer takes its note back.
+/// a note that was pending before, since a process has at most one of a kind; other notes that were
+/// pending are pending again. After write(2) and notify(2). Own: that a writer takes its note back.
 pub fn write_unnoted<R: Wait>(
     alloc: Global,
     rt: &R,

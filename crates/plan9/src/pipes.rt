@@ -1,4 +1,4 @@
-//! Processes that have an end of a pipe: what each call asks for besides its bytes is in the type.
+//! Processes that have an end of a pipe: the type holds what each call needs besides its bytes.
 ghost use Rattle.std.specs.Prelude.{◌≡◌, length, IfOk, IfErr, OnErr};
 ghost use Rattle.plan9.specs.Pipes.{HaveEnds, WhyNoWriters};
 ghost use Rattle.plan9.specs.Refusals.{ComeBack};
@@ -56,7 +56,7 @@ impl<'p, 'k> Reader<'p, 'k> {
     /// `End` where the direction is hung up and all is read. Refuses, in this order, as `BadCount`
     /// for a buffer of no bytes, as `NoRendez` where the kernel of the process does not own all the
     /// Rendez of the direction, and where it would wait as `DoubleSleep` and `Interrupted`. A read
-    /// that took a write out wakes each writer with its number, in stream mode with that of the
+    /// that took a write out wakes each writer with the number of that write, in stream mode of the
     /// last one. After pipe(3) and read(2).
     pub fn read<R: Wait>(&mut self, rt: &R, buffer: &mut [u8]) -> Result<ReadAnswer, Fault>
         // A buffer of no bytes is refused first, and then a process of a kernel that does not own
@@ -79,10 +79,10 @@ impl<'p, 'k> Reader<'p, 'k> {
     /// moment is at most `u64::MAX`. Own; read(2) waits as long as it takes.
     ///
     /// Refuses, in this order, as `BadCount`, `NoRendez` and `DoubleSleep` as `read` does, as
-    /// `Interrupted` with the notes that ended the wait, and as `TimedOut` where a tick did so and
-    /// no other note came; a refused read got nothing. With any other answer other notes that came
-    /// are pending again. Where a tick has taken its timer, it waits for that tick's note before it
-    /// answers, so that no late expiry reaches a later sleep. Takes no memory.
+    /// `Interrupted` with the notes that ended the wait, and as `TimedOut` where a tick ended it
+    /// and no other note came; a refused read got nothing. With any other answer, other notes that
+    /// came are pending again. Where a tick has taken its timer, it waits for that tick's note
+    /// before it answers, so that no late expiry reaches a later sleep. Takes no memory.
     pub fn read_within<R: Wait>(
         &mut self,
         rt: &R,
@@ -150,11 +150,11 @@ impl<'p, 'k> Reader<'p, 'k> {
     }
 
     /// Reads all that is left of the write that was begun, or else the next write. No byte is
-    /// copied to another block: this one becomes the block that was written, so its length is what
-    /// was read, and what is left of a begun write moves to its front. The memory that it had goes
-    /// to the writers, who fill it again: call with the block of the last call. In stream mode too
-    /// it reads one write, and an empty one as no bytes. Where nothing is there yet it waits. Takes
-    /// no memory.
+    /// copied to another block: this block becomes the block that was written, so its length is
+    /// what was read, and what is left of a begun write moves to its front. Its old memory goes to
+    /// the writers, who fill it again: call with the block of the last call. In stream mode too it
+    /// reads one write, and reads an empty write as no bytes. Where nothing is there yet it waits.
+    /// Takes no memory.
     ///
     /// `End` where the direction is hung up and all is read. Refuses, in this order, as `NoRendez`
     /// where the kernel of the process does not own all the Rendez of the direction, and where it
@@ -215,15 +215,15 @@ impl<'p, 'k> Writer<'p, 'k> {
         Writer { end, proc }
     }
 
-    /// Writes these bytes as one write, which is read whole and in one piece, and answers its
+    /// Writes these bytes as one write, which is read whole and in one piece, and returns its
     /// number. Where there is no room it waits. Memory is taken for the bytes.
     ///
     /// Refuses, in this order, as `TooBig` above the atomic size, as `NoRendez` where the kernel of
     /// the process does not own all the Rendez of the direction, as `Memory`, as `Hungup` where the
-    /// direction is hung up, and then the note of a write on a closed pipe is posted to the
-    /// process; as `Worn` where the last number is given, and where it would wait as `DoubleSleep`
-    /// and `Interrupted`. A write that was accepted wakes the reader with its number. After pipe(3)
-    /// and write(2).
+    /// direction is hung up, with the note of a write on a closed pipe posted to the process, as
+    /// `Worn` where the last number was given, and where it would wait as `DoubleSleep` and
+    /// `Interrupted`. A write that was accepted wakes the reader with its number. After pipe(3) and
+    /// write(2).
     pub fn write<R: Wait>(&mut self, alloc: Global, rt: &R, bytes: &[u8]) -> Result<u64, Fault>
         // A write above the atomic size is refused first, and then a process of a kernel that does
         // not own all the Rendez of the direction.
@@ -241,12 +241,12 @@ impl<'p, 'k> Writer<'p, 'k> {
         self.end.write(alloc, rt, &mut self.proc, bytes)
     }
 
-    /// A `write` that leaves no note where the direction is hung up, so that no later wait of the
-    /// process is ended by it. It waits, and takes memory, as `write` does.
+    /// A `write` that leaves no note where the direction is hung up, so that this note ends no
+    /// later wait of the process. It waits, and takes memory, as `write` does.
     ///
     /// Refuses as `write` does. With `Hungup` it takes the note of a write on a closed pipe back,
-    /// also one that was pending before, since a process has at most one of a kind; other notes
-    /// that were pending are pending again. After write(2) and notify(2); own: that a writer takes
+    /// also a note that was pending before, since a process has at most one of a kind; other notes
+    /// that were pending are pending again. After write(2) and notify(2). Own: that a writer takes
     /// its note back.
     pub fn write_unnoted<R: Wait>(
         &mut self,
@@ -265,8 +265,8 @@ impl<'p, 'k> Writer<'p, 'k> {
     ///
     /// Refuses, in this order, as `TooBig`, `NoRendez`, `Memory`, `Hungup`, `Worn` and
     /// `DoubleSleep` as `write` does, as `Interrupted` with the notes that ended the wait, and as
-    /// `TimedOut` where a tick did so and no other note came; a refused write took nothing. With
-    /// any other answer other notes that came are pending again. Where a tick has taken its timer,
+    /// `TimedOut` where a tick ended it and no other note came; a refused write took nothing. With
+    /// any other answer, other notes that came are pending again. Where a tick has taken its timer,
     /// it waits for that tick's note before it answers, so that no late expiry reaches a later
     /// sleep.
     pub fn write_within<R: Wait>(
@@ -313,9 +313,9 @@ impl<'p, 'k> Writer<'p, 'k> {
             .write_by(alloc, rt, &mut self.proc, bytes, &until, &mut watch.seat)
     }
 
-    /// Writes these bytes as writes of the atomic size, and one of the rest; no bytes are one empty
-    /// write. It waits as `write` does, and stops at the first fault. None is `TooBig`; `NoRendez`
-    /// comes before any byte is taken.
+    /// Writes these bytes as writes of the atomic size, and one write of the rest; no bytes are one
+    /// empty write. It waits as `write` does, and stops at the first fault. No fault is `TooBig`,
+    /// and `NoRendez` comes before any byte is taken.
     pub fn write_long<R: Wait>(&mut self, alloc: Global, rt: &R, bytes: &[u8]) -> Long
         // None of its writes is above the atomic size, and it is refused as `NoRendez` just where
         // the process is of a kernel that does not own all the Rendez of the direction.
@@ -348,9 +348,9 @@ impl<'p, 'k> Writer<'p, 'k> {
     }
 }
 
-/// Gives each of these ends to a child of this process, in its note group.
-/// Refuses, in this order, as `NoProc` where fewer pids are left and as `Memory`; then no process
-/// is made, and the ends come back. Doesn't wait.
+/// Gives each of these ends to a child of this process, in its note group. Refuses, in this order,
+/// as `NoProc` where too few pids are left and as `Memory`; then no process is made, and the ends
+/// come back. Doesn't wait.
 pub fn fork_writers<'p, 'k>(
     alloc: Global,
     roster: &mut Roster<'k>,

@@ -1,5 +1,5 @@
-//! Where a shared read end lies between two turns. Whoever takes it up lays it down, and has that
-//! in hand.
+//! The place of a shared read end between two turns. Each process that takes the end up lays it
+//! down again, and its receipt shows that.
 ghost use Rattle.std.specs.Prelude.{◌≡◌, IfSome};
 ghost use Rattle.pipe_dev.specs.Ends.{IsSameReadEnd};
 ghost use Rattle.plan9.specs.Places.{IsLaid, Swaps, end_in};
@@ -10,7 +10,7 @@ use std::snapshot::Snapshot;
 use std::sync::Wait;
 use std::thread::yield_now;
 
-/// The end that lies between two turns.
+/// The end while it lies between two turns.
 #[derive(Drop)]
 pub(crate) struct Lying<'p> {
     end: ReadEnd<'p>,
@@ -24,16 +24,16 @@ impl<'p> Fits for Lying<'p> {
     ghost fits = { λ first lying. IsSameReadEnd first.value lying.end };
 }
 
-/// Where the end lies while nobody has the turn.
+/// The place of the end while nobody has the turn.
 pub(crate) type Place<'p> = Counted<Option<Lying<'p>>>;
 
-/// The end, for a turn. It can't be dropped: `lay_down` spends it, with whatever answer.
+/// The end, for a turn. It can't be dropped: `lay_down` spends it, whatever the answer is.
 #[must_use]
 pub(crate) struct TakenUp<'p> {
     pub(crate) end: ReadEnd<'p>,
 }
 
-/// What was put where the end lies. `put` alone makes it.
+/// What was put into the place of the end. `put` alone makes it.
 #[derive(Drop)]
 pub(crate) struct Receipt<'p> {
     what: Snapshot<Option<Lying<'p>>>,
@@ -46,7 +46,7 @@ pub(crate) struct Swapped<'p> {
     put: Receipt<'p>,
 }
 
-/// A place where this end lies.
+/// A place with this end in it.
 pub(crate) fn place_of<'p>(end: ReadEnd<'p>) -> Place<'p>
     ensures { result.value ≡ end.entry }
 {
@@ -54,7 +54,7 @@ pub(crate) fn place_of<'p>(end: ReadEnd<'p>) -> Place<'p>
     Counted::new(Some(Lying { end }), &first)
 }
 
-/// The end that lies in a place.
+/// The end in a place.
 pub(crate) fn end_of<'p>(place: Place<'p>) -> Option<ReadEnd<'p>>
     ensures { IfSome result (IsSameReadEnd place.entry.value) }
 {
@@ -101,7 +101,7 @@ fn swap<'p, R: Wait>(rt: &R, place: &Place<'p>, lying: Option<Lying<'p>>) -> Swa
     unreachable!()
 }
 
-/// Takes the end up. Who has the turn finds it there.
+/// Takes the end up. A process with the turn finds it there.
 pub(crate) fn take_up<'p, R: Wait>(rt: &R, place: &Place<'p>) -> TakenUp<'p>
     ensures { IsSameReadEnd place.now.value result.end }
 {

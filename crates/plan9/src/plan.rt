@@ -1,4 +1,5 @@
-//! What a program will make, counted: so its kernel has enough of all, and nobody adds by hand.
+//! A count of what a program will make, so that its kernel has enough of it all, and nobody adds by
+//! hand.
 ghost use Rattle.std.specs.Prelude.{◌≡◌};
 ghost use Rattle.plan9.specs.Plans.{at_least_one};
 
@@ -9,8 +10,8 @@ use sync_base::Fault;
 use sync_base::limits::{MAX_PROCS, MAX_RENDEZ};
 
 /// What a kernel is to have. It begins with one process; each object that is named adds the Rendez
-/// that it takes. Processes are not added up, for one may call at many objects: there are as many
-/// as the object with the most of them has, or as `processes` says, if those are more.
+/// that it takes. Processes are not added up, for a process may call many objects: there are as
+/// many as the object with the most of them has, or as `processes` says, if that is more.
 #[derive(Drop)]
 pub struct Plan {
     procs: u64,
@@ -47,7 +48,7 @@ impl Plan {
         }
     }
 
-    /// At least so many processes, the first one too. Takes no memory and doesn't wait.
+    /// At least this many processes, the first one too. Takes no memory and doesn't wait.
     pub fn processes(self, count: u64) -> Plan
         ensures { CountsProcsAlone count self result }
     {
@@ -67,7 +68,7 @@ impl Plan {
         }
     }
 
-    /// So many places to sleep in, of `Roster::rendez` and `Roster::row`. Takes no memory and
+    /// This many places to sleep in, of `Roster::rendez` and `Roster::row`. Takes no memory and
     /// doesn't wait.
     pub fn rendez(self, count: u64) -> Plan
         ensures procs { result.procs ≡ self.procs }
@@ -86,8 +87,8 @@ impl Plan {
         }
     }
 
-    /// A pipe with so many writers in each direction, and a process for each writer and for the
-    /// reader of one. Takes no memory and doesn't wait.
+    /// A pipe with this many writers in each direction, and a process for each writer and for the
+    /// reader of one direction. Takes no memory and doesn't wait.
     pub fn pipe(self, writers: u64) -> Plan
         ensures procs { CountsProcs (1 + writers) self result }
         ensures rendez { CountsRendez (rendez_for writers) self result }
@@ -99,7 +100,7 @@ impl Plan {
         }
     }
 
-    /// A tag space, or a `Hall`, of so many members, each a process. Takes no memory and doesn't
+    /// A tag space, or a `Hall`, of this many members, each a process. Takes no memory and doesn't
     /// wait.
     pub fn space(self, members: u64) -> Plan
         ensures { Seats members self result }
@@ -107,14 +108,14 @@ impl Plan {
         self.processes(members).rendez(members)
     }
 
-    /// A semaphore, or a `Pool`, for so many processes. Takes no memory and doesn't wait.
+    /// A semaphore, or a `Pool`, for this many processes. Takes no memory and doesn't wait.
     pub fn semaphore(self, procs: u64) -> Plan
         ensures { Seats procs self result }
     {
         self.processes(procs).rendez(procs)
     }
 
-    /// Timers, or a `Clock`, for so many processes: they take no Rendez. Takes no memory and
+    /// Timers, or a `Clock`, for this many processes: they take no Rendez. Takes no memory and
     /// doesn't wait.
     pub fn timers(self, procs: u64) -> Plan
         ensures { CountsProcsAlone procs self result }
@@ -123,9 +124,8 @@ impl Plan {
     }
 
     /// A kernel that has just these processes and Rendez; where no Rendez was asked for it has one,
-    /// the least that there can be.
-    /// Refuses, in this order, as `NoProc` and `NoRendez` what is more than a kernel may have, and
-    /// as `Memory`. Doesn't wait.
+    /// the least that a kernel can have. Refuses, in this order, as `NoProc` and `NoRendez` what is
+    /// more than a kernel may have, and as `Memory`. Doesn't wait.
     pub fn build(self, alloc: Global) -> Result<Opened, Fault>
         // Refused first.
         ensures in_range { OnOk result

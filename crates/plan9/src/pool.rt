@@ -1,4 +1,4 @@
-//! A pool of units, and processes that hold them: each has its process, its seat and the
+//! A pool of units, and processes that hold them: each holder has its process, its seat and the
 //! semaphore together.
 ghost use Rattle.std.specs.Prelude.{◌≡◌, ◌≤◌, ◌<◌, ◌+◌, ◌↔◌, true, [], length, IfErr, OnOk};
 ghost use Rattle.std.specs.List.{AllByRecursion};
@@ -89,7 +89,7 @@ impl Pool {
       without_spare,
     };
 
-    /// A pool of so many units for so many processes. It takes as many Rendez as there are
+    /// A pool of this many units for this many processes. It takes as many Rendez as there are
     /// processes. Refuses, in this order, as `BadArg` where the units are above 2,147,483,647,
     /// `NoProc` where the processes are not from 1 to 1,024, `NoRendez` and `Memory`. Doesn't wait.
     pub fn new(
@@ -118,9 +118,9 @@ impl Pool {
         })
     }
 
-    /// The first to hold units of this pool. Refuses, in this order, as `NoRendez` a process whose
-    /// kernel does not own all the Rendez of the pool, and as `NoProc` where somebody was the first
-    /// before; the process comes back. Takes no memory and doesn't wait.
+    /// The first holder of units of this pool. Refuses, in this order, as `NoRendez` a process
+    /// whose kernel does not own all the Rendez of the pool, and as `NoProc` where somebody was the
+    /// first before; the process comes back. Takes no memory and doesn't wait.
     pub fn first<'s, 'k>(&'s mut self, proc: Proc<'k>) -> Result<Holder<'s, 'k>, Refused<'k>>
         ensures fault { IfErr result (ComesBack (WhyNotFirst self.old proc.entry) proc.entry) }
         ensures first { IfOk result (IsFirstHolder self.old proc.entry) }
@@ -151,12 +151,12 @@ impl Pool {
         }
     }
 
-    /// So many processes that hold units of this pool: this one, and children of it in its note
-    /// group. Takes memory for the list, and waits for the semaphore's lock.
+    /// This many holders of units of this pool: this process, and children of it in its note group.
+    /// Takes memory for the list, and waits for the semaphore's lock.
     ///
     /// Refuses, in this order, before a process is made, as `NoProc` where the count is 0 or above
-    /// the processes of the pool, or fewer pids are left; as `Memory`; as `first` does; and then as
-    /// `fork` does. The process comes back.
+    /// the processes of the pool, or too few pids are left; as `Memory`; as `first` does; and then
+    /// as `fork` does. The process comes back.
     pub fn holders<'s, 'k, R: Wait>(
         &'s mut self,
         alloc: Global,
@@ -227,7 +227,7 @@ impl Pool {
     }
 }
 
-/// The seat that nobody had, and a list with room for those who will hold.
+/// The seat that nobody had, and a list with room for the holders.
 #[derive(Drop)]
 struct Begun<'s, 'k> {
     seat: SemaSeat,
@@ -317,8 +317,8 @@ impl<'s, 'k> Holder<'s, 'k> {
     /// Refuses, in this order, as `Worn` where the seat's grants are worn out and it would wait,
     /// `DoubleSleep` where another process sleeps in the seat's Rendez, and `Interrupted` with the
     /// notes that ended the wait, which are no longer pending; a refused call has got no unit.
-    /// Where a unit was granted before the notes came, it has that unit, and the notes are pending
-    /// again. Takes no memory.
+    /// Where a unit was granted before the notes came, the process has that unit, and the notes are
+    /// pending again. Takes no memory.
     pub fn acquire<R: Wait>(&mut self, rt: &R) -> Result<(), Fault>
         ensures same { IsSameHolder self.old self.new }
         ensures called { Semacquires true self.old.sema
@@ -327,7 +327,7 @@ impl<'s, 'k> Holder<'s, 'k> {
         self.acquire_probed(rt, &mut NoProbe)
     }
 
-    /// An `acquire` that tells a probe of its points, as `Sema::semacquire_probed` does: 1 before
+    /// An `acquire` that calls its probe at its points, as `Sema::semacquire_probed` does: 1 before
     /// the semaphore is asked first, 2 before and 3 after each sleep, 4 at the end.
     pub fn acquire_probed<R: Wait, P: Probe>(&mut self, rt: &R, probe: &mut P) -> Result<(), Fault>
         ensures same { IsSameHolder self.old self.new }
@@ -354,8 +354,8 @@ impl<'s, 'k> Holder<'s, 'k> {
         self.try_acquire_probed(rt, &mut NoProbe)
     }
 
-    /// A `try_acquire` that tells a probe of its points: 1 before the semaphore is asked, 4 at the
-    /// end.
+    /// A `try_acquire` that calls its probe at its points: 1 before the semaphore is asked, 4 at
+    /// the end.
     pub fn try_acquire_probed<R: Wait, P: Probe>(&mut self, rt: &R, probe: &mut P) -> bool
         ensures same { IsSameHolder self.old self.new }
         ensures called { Semacquires false self.old.sema
@@ -376,8 +376,8 @@ impl<'s, 'k> Holder<'s, 'k> {
     /// tick is the library's own.
     ///
     /// Refuses, in this order, as `Worn` and `DoubleSleep` as `acquire` does, `Interrupted` with
-    /// the notes that ended the wait, and `TimedOut` where a tick did so and no other note came; a
-    /// refused call has got no unit. With any other answer other notes that came are pending
+    /// the notes that ended the wait, and `TimedOut` where a tick ended it and no other note came;
+    /// a refused call has got no unit. With any other answer, other notes that came are pending
     /// again. Where a tick has taken its timer, it waits for that tick's note before it answers, so
     /// that no late expiry reaches a later sleep. Takes no memory.
     pub fn acquire_within<R: Wait>(
@@ -395,8 +395,8 @@ impl<'s, 'k> Holder<'s, 'k> {
         self.acquire_within_probed(rt, watch, now, ms, &mut NoProbe)
     }
 
-    /// An `acquire_within` that tells a probe of its points, as `Sema::tsemacquire_probed` does: 2
-    /// before and 3 after each sleep for a unit.
+    /// An `acquire_within` that calls its probe at its points, as `Sema::tsemacquire_probed` does:
+    /// 2 before and 3 after each sleep for a unit.
     pub fn acquire_within_probed<R: Wait, P: Probe>(
         &mut self,
         rt: &R,
@@ -422,9 +422,9 @@ impl<'s, 'k> Holder<'s, 'k> {
         )
     }
 
-    /// Adds so many units, and answers the value after the addition, before units pass to those
-    /// who wait, the first to come first. Each who was granted a unit is woken. After semrelease
-    /// in semacquire(2).
+    /// Adds `count` units, and returns the value after the addition, before units pass to the
+    /// processes that wait, first come, first served. Each process that was granted a unit is
+    /// woken. After semrelease in semacquire(2).
     ///
     /// Refuses as `BadArg`, and adds nothing, where the value would be above 2,147,483,647.
     /// It waits for the semaphore's lock. Takes no memory.
@@ -437,10 +437,10 @@ impl<'s, 'k> Holder<'s, 'k> {
             .semrelease(rt, &mut self.proc, &mut self.seat, count)
     }
 
-    /// Another process that holds as well, with a seat of its own. Refuses, in this order, as
-    /// `NoRendez` a process whose kernel does not own all the Rendez of the pool, and as `NoProc`
-    /// where the pool has had all its processes; the process comes back. It waits for the
-    /// semaphore's lock. Takes no memory.
+    /// Another holder, with a seat of its own. Refuses, in this order, as `NoRendez` a process
+    /// whose kernel does not own all the Rendez of the pool, and as `NoProc` where the pool has had
+    /// all its processes; the process comes back. It waits for the semaphore's lock. Takes no
+    /// memory.
     pub fn join<R: Wait>(&mut self, rt: &R, proc: Proc<'k>) -> Result<Holder<'s, 'k>, Refused<'k>>
         ensures same { IsSameParent self.old self.new }
         ensures fault { IfErr result
@@ -466,7 +466,7 @@ impl<'s, 'k> Holder<'s, 'k> {
         }
     }
 
-    /// A child of this process, in its note group, that holds as well. Refuses as `NoProc` where no
+    /// A child of this process, in its note group, as another holder. Refuses as `NoProc` where no
     /// pid is left or the pool has had all its processes, and then nothing is used up; and as
     /// `NoRendez` where the kernel of the roster does not own all the Rendez of the pool: the child
     /// and its seat then come back. It waits for the semaphore's lock. Takes no memory.
@@ -512,17 +512,16 @@ impl<'s, 'k> Holder<'s, 'k> {
         self.proc.pid()
     }
 
-    /// The Rendez in which its process waits for a unit: the first of its pool, and the number of
-    /// its seat on. Takes no memory and doesn't wait.
+    /// The Rendez in which its process waits for a unit: the first Rendez of its pool, plus the
+    /// number of its seat. Takes no memory and doesn't wait.
     pub fn rendez(&self) -> RendezId
         ensures { result ≡ rendez_at self.now.sema self.now.seat }
     {
         self.sema.rendez(&self.seat)
     }
 
-    /// Posts notes to a process, which end its sleep or are pending until its next one. After
-    /// postnote(2).
-    /// Refuses as `NoProc`. Takes no memory and doesn't wait.
+    /// Posts notes to a process: they end its sleep, or are pending until its next one. After
+    /// postnote(2). Refuses as `NoProc`. Takes no memory and doesn't wait.
     pub fn postnote(&mut self, pid: Pid, set: NoteSet) -> Result<(), Fault>
         // Refused first, and then nothing changes.
         ensures allowed { OnOk result (pid.0 < procs_of self.old.running.words) }
@@ -563,8 +562,8 @@ impl<'s, 'k> Holder<'s, 'k> {
         proc
     }
 
-    /// Its seat is one of its semaphore's, whose Rendez are of its kernel: so each call of it may
-    /// be made. It is there for the specification, and does nothing.
+    /// Its seat is one of its semaphore's, and the Rendez of the semaphore are of its kernel: so
+    /// each call of it may be made. This function is there for the specification, and does nothing.
     pub fn is_seated(&self)
         ensures { IsSeatedHolder self.now }
     {

@@ -4,8 +4,8 @@ use pipe_dev::ReadAnswer;
 use std::sync::Wait;
 use sync_base::Fault;
 
-/// How far a `read_exact` came that did not fill its buffer: so many bytes of it were read, and
-/// then the pipe was at its end, or there was this fault.
+/// How far a `read_exact` came that did not fill its buffer: how many bytes were read into it,
+/// before the end of the pipe or this fault.
 #[derive(Clone, Copy, Debug, PartialEq, Eq)]
 pub struct ShortRead {
     pub count: usize,
@@ -15,8 +15,8 @@ pub struct ShortRead {
 impl<'p, 'k> Reader<'p, 'k> {
     ghost use Rattle.plan9.specs.Readings.{FillsUp, ReadsPiece};
 
-    /// Reads the next piece into the buffer, as `read` does, and says how many bytes it is; `None`
-    /// where the direction is hung up and all is read. So `while let Some(count) =
+    /// Reads the next piece into the buffer, as `read` does, and returns how many bytes it has;
+    /// `None` where the direction is hung up and all is read. So `while let Some(count) =
     /// reader.next_piece(rt, &mut buffer)? {..}` is a loop to the end. It waits. Takes no memory.
     /// Refuses as `read` does.
     #[tactic(auto, using(crate::proofs::ReadingLemmas::piece_lies))]
@@ -31,9 +31,9 @@ impl<'p, 'k> Reader<'p, 'k> {
     }
 
     /// Reads until the buffer is full, from write to write, also in message mode. Where the pipe
-    /// ends before, or a read is refused, it says how many bytes came: they are in the buffer, and
-    /// the next read goes on after them. It waits. Takes no memory. A buffer of no bytes is full.
-    /// After readn in read(2).
+    /// ends before that, or a read is refused, it returns how many bytes came: they are in the
+    /// buffer, and the next read goes on after them. It waits. Takes no memory. A buffer of no
+    /// bytes is full. After readn in read(2).
     pub fn read_exact<R: Wait>(&mut self, rt: &R, buffer: &mut [u8]) -> Result<(), ShortRead>
         ensures { FillsUp self.old buffer.old result self.new buffer.new }
     {

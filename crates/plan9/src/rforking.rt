@@ -1,5 +1,5 @@
-//! A guest that calls rfork(2): its child is in its hall or in a new one, or it is in a new one
-//! itself.
+//! A guest that calls rfork(2): its child is in its hall or in a new one, or the guest itself moves
+//! to a new one.
 ghost use Rattle.std.specs.Prelude.{◌≡◌, ◌↔◌, ◌+◌, ◌≤◌, true};
 ghost use Rattle.rendez_words.specs.Words.{rendez_of};
 
@@ -63,14 +63,14 @@ impl<'s, 'k> Guest<'s, 'k> {
     ghost use Rattle.plan9.specs.GuestForks.{guest_fork};
 
     /// After fork(2): a child with RFPROC, and a new hall with RFREND, for as many processes as
-    /// this one. A child is a guest of its parent's hall, but with RFREND the process that is to be
-    /// the first of the new one. With RFREND alone the caller is. With RFNOTEG a child is the first
-    /// of a new note group, and without RFPROC the caller is.
+    /// this one. A child is a guest of its parent's hall; with RFREND it is instead the process
+    /// that is to be the first of the new one. With RFREND alone the caller is that process. With
+    /// RFNOTEG a child is the first of a new note group; without RFPROC the caller is.
     ///
     /// Refuses, in this order, as `NoRendez` where the kernel of the roster does not own all the
     /// Rendez of the hall, `BadFlags` for any other flag, `NoProc` where no pid is left, `NoRendez`
     /// where no row for a new hall is left, `NoProc` where the hall has had all its guests, and
-    /// `Memory`; a refusal uses up no pid, no Rendez and no member, and hands the guest back. It
+    /// `Memory`. A refusal uses up no pid, no Rendez and no member, and hands the guest back. It
     /// waits for the space's lock. With RFREND it takes memory.
     pub fn rfork<R: Wait>(
         self,

@@ -50,7 +50,7 @@ impl<'p> Shared<'p> {
     ghost use Rattle.plan9.specs.Refusals.{ComesBack};
     ghost use Rattle.plan9.specs.Sharings.{IsFirstSharer, IsNewShared, IsNotShared, first_end};
 
-    /// Lets so many processes share a read end. It takes as many Rendez as there are processes.
+    /// Lets this many processes share a read end. It takes as many Rendez as there are processes.
     /// Refuses, in this order, as `NoProc` where the processes are not from 1 to 1,024, `NoRendez`
     /// and `Memory`; the end comes back. Doesn't wait.
     pub fn new(
@@ -76,9 +76,9 @@ impl<'p> Shared<'p> {
         }
     }
 
-    /// The first that has turns at the end. Refuses, in this order, as `NoRendez` a process whose
-    /// kernel does not own all the Rendez of the turns, and as `NoProc` where somebody was the
-    /// first before; the process comes back. Takes no memory and doesn't wait.
+    /// The first process with turns at the end. Refuses, in this order, as `NoRendez` a process
+    /// whose kernel does not own all the Rendez of the turns, and as `NoProc` where somebody was
+    /// the first before; the process comes back. Takes no memory and doesn't wait.
     pub fn first<'s, 'k>(&'s mut self, proc: Proc<'k>) -> Result<Sharer<'s, 'p, 'k>, Refused<'k>>
         ensures fault { IfErr result
             (ComesBack (WhyNotFirst self.old.turns proc.entry) proc.entry) }
@@ -98,7 +98,7 @@ impl<'p> Shared<'p> {
     }
 }
 
-/// How a call of the end was answered, and that the end was laid down after it.
+/// The answer to a call of the end, and the receipt that the end was laid down after it.
 struct Called<'p, A> {
     answer: A,
     laid: Receipt<'p>,
@@ -179,12 +179,12 @@ impl<'s, 'p, 'k> Sharer<'s, 'p, 'k> {
       end_of,
     };
 
-    /// Reads in its turn, which comes in the order of asking: as `Reader::read` from the end that
-    /// it finds, which then lies there for the next. It waits for its turn, and where nothing is
+    /// Reads in its turn, as `Reader::read` does from the end; turns come in the order of asking.
+    /// The end then lies there for the next process. It waits for its turn, and where nothing is
     /// there to be read yet. Takes no memory.
     ///
     /// Refuses, in this order, as `Holder::acquire` does where it waits for its turn, and then as
-    /// `Reader::read` does: with any answer the end lies there again and the turn is given back.
+    /// `Reader::read` does. With any answer the end lies there again, and the turn is given back.
     /// So notes end either wait, as `Interrupted`. After qlock in lock(2), and read(2).
     pub fn read<R: Wait>(&mut self, rt: &R, buffer: &mut [u8]) -> Result<ReadAnswer, Fault>
         ensures same { IsSameSharer self.old self.new }
@@ -196,7 +196,7 @@ impl<'s, 'p, 'k> Sharer<'s, 'p, 'k> {
         answer
     }
 
-    /// A `read` that says how many bytes the piece is, and `None` at the end, as
+    /// A `read` that returns how many bytes the piece has, and `None` at the end, as
     /// `Reader::next_piece`. It waits. Takes no memory. Refuses as `read` does.
     #[tactic(auto, using(crate::proofs::SharingLemmas::piece_lies_in_turn))]
     pub fn next_piece<R: Wait>(&mut self, rt: &R, buffer: &mut [u8]) -> Result<Option<usize>, Fault>
@@ -212,8 +212,8 @@ impl<'s, 'p, 'k> Sharer<'s, 'p, 'k> {
         }
     }
 
-    /// Reads a block in its turn, as `Reader::read_block`. It waits as `read` does, and is refused
-    /// so, but for `BadCount`. Takes no memory.
+    /// Reads a block in its turn, as `Reader::read_block`. It waits and is refused as `read` is,
+    /// but never with `BadCount`. Takes no memory.
     pub fn read_block<R: Wait>(&mut self, rt: &R, block: &mut Vec<u8>) -> Result<ReadAnswer, Fault>
         ensures same { IsSameSharer self.old self.new }
         ensures turn { InTurn ReadsBlockOnce self.old (buffers block.old.items block.new.items)
@@ -225,9 +225,9 @@ impl<'s, 'p, 'k> Sharer<'s, 'p, 'k> {
         answer
     }
 
-    /// A `read` that does not wait: `NotYet` where another has the turn or nothing is there yet. It
-    /// waits for the semaphore's lock. Takes no memory.
-    /// Refuses as `Reader::try_read` does, where nobody else has the turn.
+    /// A `read` that does not wait: `NotYet` where another process has the turn or nothing is there
+    /// yet. It waits for the semaphore's lock. Takes no memory. Refuses as `Reader::try_read` does,
+    /// where nobody else has the turn.
     pub fn try_read<R: Wait>(&mut self, rt: &R, buffer: &mut [u8]) -> Result<TryAnswer, Fault>
         ensures same { IsSameSharer self.old self.new }
         ensures turn { TriesInTurn self.old (buffers buffer.old buffer.new) result self.new }
@@ -240,8 +240,8 @@ impl<'s, 'p, 'k> Sharer<'s, 'p, 'k> {
         answer
     }
 
-    /// A child of this process, in its note group, that has turns at the end as well.
-    /// Refuses as `Holder::fork` does. It waits for the semaphore's lock. Takes no memory.
+    /// A child of this process, in its note group, with turns at the end as well. Refuses as
+    /// `Holder::fork` does. It waits for the semaphore's lock. Takes no memory.
     pub fn fork<R: Wait>(
         &mut self,
         rt: &R,
@@ -284,16 +284,16 @@ impl<'s, 'p, 'k> Sharer<'s, 'p, 'k> {
         self.holder.pid()
     }
 
-    /// The Rendez in which its process waits for a turn; for bytes it waits in that of its end.
-    /// Takes no memory and doesn't wait.
+    /// The Rendez in which its process waits for a turn; for bytes it waits in the Rendez of its
+    /// end. Takes no memory and doesn't wait.
     pub fn rendez(&self) -> RendezId
         ensures { result ≡ rendez_at self.now.holder.sema self.now.holder.seat }
     {
         self.holder.rendez()
     }
 
-    /// Its process. It has no turns any more, nor has another in its place. Takes no memory and
-    /// doesn't wait.
+    /// Its process. It has no turns any more, and no other process gets its place. Takes no memory
+    /// and doesn't wait.
     pub fn into_proc(self) -> Proc<'k>
         ensures { result ≡ self.entry.holder.running }
     {

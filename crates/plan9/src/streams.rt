@@ -9,22 +9,22 @@ use std::sync::Wait;
 use sync_base::Fault;
 use sync_base::limits::ATOMIC_SIZE;
 
-/// A reader as std's `Read`, with what its waits ask for. Both may be taken out again.
+/// A reader as std's `Read`, with what its waits need. Both may be taken out again.
 #[derive(Drop)]
 pub struct ReadStream<'r, 'p, 'k, R> {
     pub rt: &'r R,
     pub reader: Reader<'p, 'k>,
-    /// The fault of the last call that failed: an `io::Error` has no more than its kind.
+    /// The fault of the last call that failed: an `io::Error` has only its kind.
     pub fault: Option<Fault>,
 }
 
-/// A writer as std's `Write`, with what its calls ask for. All may be taken out again.
+/// A writer as std's `Write`, with what its calls need. All may be taken out again.
 #[derive(Drop)]
 pub struct WriteStream<'r, 'p, 'k, R> {
     pub alloc: Global,
     pub rt: &'r R,
     pub writer: Writer<'p, 'k>,
-    /// The fault of the last call that failed: an `io::Error` has no more than its kind.
+    /// The fault of the last call that failed: an `io::Error` has only its kind.
     pub fault: Option<Fault>,
 }
 
@@ -76,9 +76,9 @@ impl<'r, 'p, 'k, R: Wait> Read for ReadStream<'r, 'p, 'k, R> {
     ghost use Rattle.std.specs.Io.KnownBytes.{ReadConsumes};
     ghost use Rattle.plan9.specs.Streams.{Streams, lent};
 
-    /// Reads as `Reader::next_piece`, and answers no bytes at the end alone: empty writes are
-    /// passed. A buffer of no bytes is given none, and nothing is read. It waits. Takes no memory.
-    /// A fault is in `fault`, which a read that succeeds leaves as it was. The error then is
+    /// Reads as `Reader::next_piece`, and returns no bytes at the end alone: empty writes are
+    /// passed. A buffer of no bytes gets none, and nothing is read. It waits. Takes no memory. A
+    /// fault is in `fault`, which a read that succeeds leaves as it was. The error then is
     /// `OutOfMemory`, `BrokenPipe` for `Hungup`, `ResourceBusy` for `DoubleSleep`, and else
     /// `Other`, also where notes ended the wait.
     fn read(&mut self, buf: &mut [u8]) -> io::Result<usize>
@@ -112,9 +112,9 @@ impl<'r, 'p, 'k, R: Wait> Write for WriteStream<'r, 'p, 'k, R> {
     ghost use Rattle.std.specs.Io.KnownBytes.{WriteAppends};
     ghost use Rattle.plan9.specs.Streams.{StreamsOut};
 
-    /// Writes the first 65,536 bytes, or fewer where there are fewer, as one write, and answers how
-    /// many; no bytes are no write. It waits, and takes memory, as `Writer::write`. A fault is told
-    /// as `ReadStream` tells it.
+    /// Writes the first 65,536 bytes, or all where there are fewer, as one write, and returns how
+    /// many; no bytes are no write. It waits, and takes memory, as `Writer::write`. A fault is
+    /// kept, and the error chosen, as in `ReadStream`.
     fn write(&mut self, buf: &[u8]) -> io::Result<usize>
         ensures bound { WritesAtMost result buf.now }
         ensures bytes { WriteAppends None None result buf.now }
@@ -135,7 +135,7 @@ impl<'r, 'p, 'k, R: Wait> Write for WriteStream<'r, 'p, 'k, R> {
         }
     }
 
-    /// Nothing is held back, so nothing is done. Takes no memory and doesn't wait.
+    /// Nothing is held back, so this does nothing. Takes no memory and doesn't wait.
     fn flush(&mut self) -> io::Result<()>
         ensures same { self.new ≡ self.old }
         ensures done { OnErr result ⊥ }

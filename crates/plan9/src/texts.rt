@@ -2,15 +2,15 @@
 use std::fmt::{self, Display, Formatter, Write};
 use sync_base::{Fault, Note, NoteSet};
 
-/// Notes in words: the text of each of them, as notify(2) shows it, with commas between.
+/// Notes in words: the text of each note, as notify(2) shows it, with commas between.
 #[derive(Clone, Copy)]
 pub struct NoteTexts(pub NoteSet);
 
-/// A fault in words: its own text, and after that of `Interrupted` the notes that ended the wait.
+/// A fault in words: its own text, and for `Interrupted` then the notes that ended the wait.
 #[derive(Clone, Copy)]
 pub struct FaultText(pub Fault);
 
-/// Each kind of note, in the order in which they are told.
+/// Each kind of note, in the order in which they are printed.
 const KINDS: [Note; 5] = [
     Note::Interrupt,
     Note::Hangup,

@@ -1,4 +1,4 @@
-//! A process that tells a clock the time, and real time.
+//! A process that ticks a clock, and real time.
 use crate::clock::Watch;
 use sleep_wakeup::Proc;
 use std::sync::Wait;
@@ -11,20 +11,21 @@ use sync_base::NoteSet;
 // The nanoseconds of a millisecond.
 const NANOS: u128 = 1_000_000;
 
-/// What tells a ticker when to tick.
+/// Where a ticker gets its moments from.
 pub trait TickSource {
     ghost use Rattle.std.specs.Prelude.{⊤, ℕ};
 
-    /// What is known of a moment, by the time before it and after it: nothing, unless it is said.
+    /// What is known of a moment, by the source before it and after it: by default nothing.
     ghost tells: { Self → ℕ → Self → Type 0 } = { λ old moment new. ⊤ };
 
-    /// Waits until the next moment to tick at, if it likes, and says which it is, in milliseconds.
+    /// Waits, if it likes, until the next moment to tick at, and returns that moment, in
+    /// milliseconds.
     fn next(&mut self) -> u64
         ensures told { tells self.old result self.new };
 }
 
-/// Real time that a ticker and those who wait share: the milliseconds since it was made. Its `beat`
-/// is what the ticker runs by, and `now` the moment at which a wait begins.
+/// Real time that a ticker and the processes that wait share: the milliseconds since it was made.
+/// The ticker runs by its `beat`, and `now` is the moment at which a wait begins.
 #[derive(Drop)]
 pub struct RealTime {
     began: Option<Instant>,
@@ -43,16 +44,16 @@ impl RealTime {
     }
 
     /// The moment at which a wait begins: how many milliseconds have passed, rounded up. A beat
-    /// tells a moment once that many whole ones have passed, so a deadline that is counted from now
-    /// does not pass early. It is at least the moment that a beat of this told last, and just that
-    /// where the clock can't be read. Takes no memory and doesn't wait.
+    /// gives a moment once that many whole ones have passed, so a deadline that is counted from now
+    /// does not pass early. It is at least the moment that a beat of this time gave last, and is
+    /// that moment where the clock can't be read. Takes no memory and doesn't wait.
     pub fn now<R: Clock>(&self, rt: &R) -> u64 {
         let told = self.told.load(SeqCst);
         begun(rt, self.began).unwrap_or(told).max(told)
     }
 
-    /// A beat that begins where this began, and shows here each moment before it tells it. Takes no
-    /// memory and doesn't wait.
+    /// A beat that begins where this time began, and shows each moment here before it gives it.
+    /// Takes no memory and doesn't wait.
     pub fn beat<'r, R: Clock>(&'r self, rt: &'r R) -> Beat<'r, R>
         ensures { IsBeatOf self.now result }
     {
@@ -66,8 +67,8 @@ impl RealTime {
 }
 
 /// The moments of real time, in milliseconds from 0 on where it was made. Each is later than the
-/// one before, and none is ahead of the system's clock while that can be read. It does not tell
-/// each millisecond: on a busy machine the first two moments may be 32 and 36.
+/// one before, and none is ahead of the system's clock while that can be read. It skips
+/// milliseconds: on a busy machine the first two moments may be 32 and 36.
 #[derive(Drop)]
 pub struct Beat<'r, R> {
     rt: &'r R,
@@ -109,9 +110,9 @@ impl<'r, R: Clock> TickSource for Beat<'r, R> {
 
     ghost tells = { λ old moment new. IsBeat old.now moment new.now };
 
-    /// Sleeps for a millisecond, and says how many have passed since it began: more than it said
-    /// before, up to the last number. Where the clock can't be read it counts each sleep as one. A
-    /// note does not end the sleep. Takes no memory.
+    /// Sleeps for a millisecond, and returns how many have passed since it began: more than it
+    /// returned before, up to the last number. Where the clock can't be read it counts each sleep
+    /// as one. A note does not end the sleep. Takes no memory.
     fn next(&mut self) -> u64
         ensures told { IsBeat self.old.now result self.new.now }
     {
@@ -125,7 +126,7 @@ impl<'r, R: Clock> TickSource for Beat<'r, R> {
     }
 }
 
-/// A process that tells a clock the time, by a seat at its timers: `Ticker { watch, proc }`.
+/// A process that ticks a clock, by a seat at its timers: `Ticker { watch, proc }`.
 #[derive(Drop)]
 pub struct Ticker<'t, 'k> {
     pub watch: Watch<'t>,
@@ -136,9 +137,9 @@ impl<'t, 'k> Ticker<'t, 'k> {
     ghost use Rattle.plan9.specs.Tickers.{TicksOn, timed};
 
     /// Ticks at each moment that `time` gives, once and in their order, until notes are pending for
-    /// its process, and answers those, which are pending no longer. It looks for notes before each
-    /// moment that it asks for, so the last tick may stand after a note. It waits, in `time` and
-    /// for the timers' lock. Takes no memory.
+    /// its process, and returns the notes, which are pending no longer. It looks for notes before
+    /// each moment that it asks for, so the last tick may come after a note. It waits, in `time`
+    /// and for the timers' lock. Takes no memory.
     pub fn run<R: Wait, T: TickSource>(&mut self, rt: &R, time: &mut T) -> NoteSet
         ensures { TicksOn T.tells (timed self.old time.old) result (timed self.new time.new) }
     {

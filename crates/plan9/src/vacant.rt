@@ -5,8 +5,8 @@ use sleep_wakeup::Proc;
 use std::marker::Model;
 use sync_base::Fault;
 
-/// A seat at a pool that no process has. `fill` gives it to one; dropped, nobody can have it any
-/// more.
+/// A seat at a pool that no process has. `fill` gives it to a process; if it is dropped, nobody can
+/// have it any more.
 #[derive(Drop)]
 pub struct Vacant<'s> {
     pub(crate) sema: &'s Sema,
@@ -36,8 +36,8 @@ pub struct Unseated<'s, 'k> {
     pub proc: Proc<'k>,
 }
 
-/// Why a fork made no holder. Where a child was made it comes back, with the seat that it can't
-/// have; else nothing was used up.
+/// Why a fork made no holder. A child that was made comes back, with the seat that it can't have;
+/// else nothing was used up.
 #[derive(Drop)]
 pub struct NotHolder<'s, 'k> {
     pub unseated: Option<Unseated<'s, 'k>>,

@@ -10,7 +10,7 @@ use Rattle.rendez_words.specs.declared.states.TakeAnswer.{TakeAnswer}
 use Rattle.rendez_words.specs.declared.states.TakeAnswer.TheVariants as take
 use Rattle.rendez_words.specs.Process.{Process}
 
--- the process after the call, and how it was answered
+-- the process after the call, and the answer
 abbrev pub IfTested : TestAnswer → (Process → Type 0) → (Process → Type 0) → Type 0
 IfTested (test.Asleep process) IfAsleep IfLeaving = IfAsleep process
 IfTested (test.Leaving process) IfAsleep IfLeaving = IfLeaving process

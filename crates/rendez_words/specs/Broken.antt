@@ -1,5 +1,5 @@
 -- States of the words, and what the seats know of them, that the rule does not allow, each for a
--- reason of its own; and one that it allows. The laws cite them.
+-- reason of its own; and a state that it allows. The laws cite them.
 use Rattle.std.specs.Prelude.{ℕ, List, [], ◌∷◌, ◌++◌, flat_map}
 use Rattle.atomic_table.specs.Table as table
 use Rattle.sync_base.specs.declared.ids.Pid.{Pid}
@@ -18,7 +18,7 @@ use Rattle.rendez_words.specs.Rule.{line}
 abbrev pub Shown : Type 0
 Shown = table.State (Unit {0}) View
 
--- so many processes, and one Rendez
+-- this many processes, and one Rendez
 abbrev pub with_procs : ℕ → Sizes
 with_procs procs = record { procs = procs; rendez = 1 }
 

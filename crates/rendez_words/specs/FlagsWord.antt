@@ -1,5 +1,5 @@
--- The flags of a process as one word. Own: the lowest bit is the mark of a wakeup, and above it
--- stands a bit for each kind of note. A further kind of note comes at the end of `bits_of`.
+-- The flags of a process as one word. Own: the lowest bit is the mark of a wakeup, and above it is
+-- a bit for each kind of note. A further kind of note comes at the end of `bits_of`.
 use Rattle.std.specs.Prelude.{ℕ, ◌+◌, ◌*◌, Bool, List, [], ◌∷◌, if◌then◌else◌}
 use Rattle.sync_base.specs.declared.note.Note.TheVariants.{Interrupt, Hangup, Alarm, ClosedPipe}
 use Rattle.sync_base.specs.declared.note.Note.TheVariants.{Expired}

@@ -16,7 +16,7 @@ use Rattle.rendez_words.specs.declared.view.View.{View}
 use Rattle.rendez_words.specs.declared.view.View.TheVariants as view
 use Rattle.rendez_words.specs.Rule.{ShowsCore}
 
--- What is promised of every run of the core is so of what running threads did.
+-- What is promised of every run of the core holds of the steps of running threads.
 pub record KeepsPromises (sizes : Sizes) (s : table.State (Unit {0}) View)
     (shows : ShowsCore sizes s) : Type 0 where
   pub kept : IsKept (history_of shows.run) (world_of sizes.procs sizes.rendez shows.run)
@@ -28,7 +28,7 @@ ThreadsKeepPromises =
     → KeepsPromises sizes s shows
 
 -- The rule in words: a process whose sleep is not over is posted, or held by one raiser, or marked,
--- or has withdrawn itself, and just one of these; no other process is any of them.
+-- or has withdrawn itself, and exactly one of these; no other process is any of them.
 pub record AreInPlaces (state : State) : Type 0 where
   pub sleepers : (pid : ℕ) → IsInSleep (phase_of state pid) → IsInOnePlace state pid
   pub others : (pid : ℕ) → ¬ (IsInSleep (phase_of state pid)) → (place : Place)

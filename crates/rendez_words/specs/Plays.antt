@@ -1,4 +1,4 @@
--- What each kind of step tells its seat, and what it asks.
+-- What a seat learns from each kind of step, and what the step asks.
 use Rattle.std.specs.Prelude.{◌≡◌, ◌≢◌, ◌<◌, ⊤, ℕ, List, [], ◌∷◌, if◌then◌else◌}
 use Rattle.atomic_table.specs.Table as table
 use Rattle.sleep_core.specs.declared.event.Event.{Event}
@@ -35,21 +35,21 @@ number_of (Number n) = n
 number_of (Flags flags) = flags_word flags
 number_of NoWord = 0
 
--- it may lie in the cell
+-- this word may lie in the cell
 abbrev pub IsWordOf : Cell → Word → Type 0
 IsWordOf (PostedOf rendez) (Number n) = ⊤
 IsWordOf (LevelOf rendez) (Number n) = ⊤
 IsWordOf (FlagsOf pid) (Flags flags) = ⊤
 IsWordOf cell word = ⊥
 
--- the cell is there
+-- there is such a cell
 abbrev pub IsCellIn : Sizes → Cell → Type 0
 IsCellIn sizes (PostedOf rendez) = rendez < sizes.rendez
 IsCellIn sizes (LevelOf rendez) = rendez < sizes.rendez
 IsCellIn sizes (FlagsOf pid) = pid < sizes.procs
 IsCellIn sizes NoCell = ⊥
 
--- one step more, if it is worth keeping
+-- one more step, if it is worth keeping
 abbrev pub part_after : Event → Answer → Part → Part
 part_after event told part =
     record {
@@ -77,7 +77,7 @@ pub record IsStep (sizes : Sizes) (event : Event) (part : Part) (word : ℕ)
       → (found : Word) → IsWordOf cell found
       → does (number_of found) ≡ number_of (word_after event stage found)
 
--- What a step tells: the event was answered by the table from what was found in its cell.
+-- What a step ensures: the table answered the event from what was found in its cell.
 pub record HasMade (sizes : Sizes) (event : Event) (before : Part) (found : ℕ)
     (after : Part) : Type 0 where
   pub stage : Phase
@@ -88,7 +88,7 @@ pub record HasMade (sizes : Sizes) (event : Event) (before : Part) (found : ℕ)
   pub after_is : after ≡ part_after event (reply event stage word) before
   pub run : IsOfRun sizes.procs sizes.rendez after.pid after.trace
 
--- the same of the seat at the table
+-- the same for the seat at the table
 pub record HasStepped (sizes : Sizes) (event : Event) (before : Seated) (found : ℕ)
     (after : Seated) : Type 0 where
   pub made : HasMade sizes event (part_in before.0) found (part_in after.0)

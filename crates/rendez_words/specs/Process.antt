@@ -34,14 +34,15 @@ held_in other = record { 0 = 0 }
 abbrev pub sleeper_of : Process → Pid
 sleeper_of process = held_in (phase_in process)
 
--- one step more, with its answer
+-- one more step, with its answer
 abbrev pub made : Process → Event → Answer → Process
 made process event told =
     record process {
       trace = record { maker = process.pid; event = event; answer = told } ∷ process.trace;
     }
 
--- some run of the core has just these steps of the process, but for what is not worth keeping
+-- some run of the core has just these steps of the process, not counting steps that are not worth
+-- keeping
 pub record IsOfRun (procs rendez : ℕ) (pid : ℕ) (trace : List Entry) : Type 0 where
   pub run : List Entry
   pub legal : IsRun procs rendez run

@@ -17,7 +17,7 @@ use Rattle.rendez_words.specs.declared.view.View.TheVariants as view
 use Rattle.sync_base.specs.declared.line.TheConstants.{LINE}
 use Rattle.rendez_words.specs.FlagsWord.{flags_word}
 
--- these words with a line to themselves: what lies after them is 0 for ever
+-- these words with a line to themselves: the rest of the line is 0 for ever
 abbrev pub line : List ℕ → List ℕ
 line words = words ++ replicate (LINE - length words) 0
 
@@ -29,7 +29,7 @@ rendez_line words = line (words.0 ∷ words.1 ∷ [])
 abbrev pub proc_line : ProcFlags → List ℕ
 proc_line flags = line (flags_word flags ∷ [])
 
--- the words of a world: the line of each Rendez, and then that of each process
+-- the words of a world: the line of each Rendez, and then the line of each process
 abbrev pub words_of : State → List ℕ
 words_of state =
     flat_map rendez_line (zip state.posted state.levels) ++ flat_map proc_line state.flags
@@ -41,15 +41,16 @@ index_of sizes (LevelOf rendez) = LINE * rendez + 1
 index_of sizes (FlagsOf pid) = LINE * (sizes.rendez + pid)
 index_of sizes NoCell = 0
 
--- A seat has this process: no other seat has its pid, and its trace is what the run has of it, but
--- for what is not worth keeping.
+-- A seat has this process: no other seat has its pid, and its trace is what the run has of it,
+-- without the steps that are not worth keeping.
 pub record IsSeated (procs : ℕ) (run : List Entry) (owner : ℕ → ℕ) (seat : ℕ)
     (part : Part) : Type 0 where
   pub pid_in : part.pid < procs
   pub owner_is : owner part.pid ≡ seat
   pub trace_is : part.trace ≡ kept (own part.pid run)
 
--- the pid was not given: it is the seat's of all pids to come, and nothing in the run is by it
+-- the pid was not given: it belongs to the seat of all pids to come, and no step of the run is by
+-- it
 pub record IsUnused (run : List Entry) (owner : ℕ → ℕ) (seat pid : ℕ) : Type 0 where
   pub owner_is : owner pid ≡ seat
   pub none : own pid run ≡ []
@@ -61,7 +62,7 @@ pub record AreSeated (procs : ℕ) (run : List Entry) (owner : ℕ → ℕ) (sea
   pub second : IsSeated procs run owner seat raiser
   pub differ : sleeper.pid ≢ raiser.pid
 
--- what a seat knows is so
+-- what a seat knows holds
 abbrev pub Fits : ℕ → List Entry → (ℕ → ℕ) → ℕ → View → Type 0
 Fits procs run owner seat (view.Process part) = IsSeated procs run owner seat part
 Fits procs run owner seat (view.Pids next) =
@@ -70,8 +71,8 @@ Fits procs run owner seat (view.Joined sleeper raiser) =
     AreSeated procs run owner seat sleeper raiser
 Fits procs run owner seat view.Spent = ⊤
 
--- The rule. Own: there is a run of the core, each step by the process whose seat made it, that ends
--- in just these words, and each seat knows its own part of it.
+-- The rule. Own: there is a run of the core that ends in just these words. Each step of it is by
+-- the process whose seat made it, and each seat knows its own part of it.
 pub record ShowsCore (sizes : Sizes) (s : table.State (Unit {0}) View) : Type 0 where
   pub run : List Entry
   pub owner : ℕ → ℕ

@@ -1,4 +1,4 @@
--- What the fields of a typed state are to its process.
+-- What the fields of a typed state say of its process.
 use Rattle.std.specs.Prelude.{◌≡◌, ◌⊎◌, ⊤, ℕ, Bool, true, false, []}
 use Rattle.atomic_table.specs.declared.shared.Seat.{Seat}
 use Rattle.sync_base.specs.declared.ids.RendezId.{RendezId}
@@ -22,7 +22,7 @@ abbrev pub process_at : Stepper → ℕ → Process
 process_at stepper pid =
     record { table = stepper.table_id; pid = pid; trace = (part_in stepper.me.0).trace }
 
--- the seat is that of this process
+-- the seat is the seat of this process
 abbrev pub IsStepperOf : Stepper → ℕ → Type 0
 IsStepperOf stepper pid =
     stepper.me ≡ (view.Process (record { pid = pid; trace = (part_in stepper.me.0).trace }), [])
@@ -30,7 +30,7 @@ IsStepperOf stepper pid =
 abbrev pub pids_at : Stepper → PidsLeft
 pids_at stepper = record { table = stepper.table_id; next = next_in stepper.me.0 }
 
--- the seat is that of the pids to come, from this one on
+-- the seat is the seat of the pids to come, from this pid on
 abbrev pub IsStepperOfPids : Stepper → ℕ → Type 0
 IsStepperOfPids stepper next = stepper.me ≡ (view.Pids next, [])
 
@@ -43,7 +43,7 @@ IsAsleep process rendez threshold = phase_in process ≡ phase.Asleep rendez thr
 abbrev pub IsOwing : Process → RendezId → ℕ → Type 0
 IsOwing process rendez level = phase_in process ≡ phase.Owing rendez level
 
--- the seat is a joined one
+-- the seat is a joined seat
 abbrev pub IsJoined : Seated → Type 0
 IsJoined me = me ≡ (view.Joined (sleeper_in me.0) (raiser_in me.0), [])
 

@@ -10,7 +10,7 @@ use Rattle.sleep_core.specs.declared.answer.Answer.TheVariants as answer
 use Rattle.sleep_core.specs.Table.{ending_of}
 use Rattle.rendez_words.specs.Process.{Process, made, pid_in, sleeper_of}
 
--- the process tried to post itself in the Rendez, and was told so
+-- the process tried to post itself in the Rendez, and got this answer
 abbrev pub posts : Process → RendezId → ℕ → Answer → Process
 posts process rendez threshold told = made process (Post (pid_in process) rendez threshold) told
 

@@ -37,7 +37,7 @@ abbrev pub next_in : View → ℕ
 next_in (view.Pids next) = next
 next_in other = 0
 
--- one pid more was given
+-- one more pid was given
 abbrev pub one_less_view : View → View
 one_less_view before = view.Pids (next_in before + 1)
 
@@ -48,7 +48,7 @@ given_view before = view.Process (unused_part (next_in before))
 abbrev pub joined_view : View → View → View
 joined_view sleeper raiser = view.Joined (part_in sleeper) (part_in raiser)
 
--- a joined seat is cut into the two that it was
+-- a joined seat is cut into the two seats that it was
 abbrev pub sleeper_view : View → View
 sleeper_view joined = view.Process (sleeper_in joined)
 

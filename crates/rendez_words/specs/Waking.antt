@@ -1,4 +1,4 @@
--- What is asked of who wakes a process.
+-- What is asked of the caller that wakes a process.
 use Rattle.std.specs.Prelude.{◌≡◌, ℕ, List, [], ◌∷◌}
 use Rattle.sleep_core.specs.declared.event.Event.{Event}
 use Rattle.sleep_core.specs.declared.event.Event.TheVariants.{Mark, Note}
@@ -13,7 +13,7 @@ Sets (Mark maker) (answer.Marked sleeper) pid = sleeper.0 ≡ pid
 Sets (Note to set) answer.Noted pid = to.0 ≡ pid
 Sets event told pid = ⊥
 
--- the newest of these steps has
+-- the newest of these steps has set them
 abbrev pub IsNewestToSet : List Entry → ℕ → Type 0
 IsNewestToSet [] pid = ⊥
 IsNewestToSet (newest ∷ past) pid = Sets newest.event newest.answer pid

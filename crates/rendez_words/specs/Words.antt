@@ -38,7 +38,7 @@ pub record IsProcessOf (words : Words) (process : Process) : Type 0 where
   pub pid : process.pid < procs_of words
   pub run : IsOfRun (procs_of words) (rendez_of words) process.pid process.trace
 
--- the pids to come are those of these words
+-- these pids to come are the pids to come of these words
 pub record ArePidsOf (words : Words) (pids : PidsLeft) : Type 0 where
   pub table : pids.table ≡ table_of words
   pub next : pids.next ≤ procs_of words
@@ -47,7 +47,7 @@ pub record ArePidsOf (words : Words) (pids : PidsLeft) : Type 0 where
 abbrev pub given_from : PidsLeft → Process
 given_from pids = record { table = pids.table; pid = pids.next; trace = [] }
 
--- one pid less is left
+-- one pid fewer is left
 abbrev pub one_less : PidsLeft → PidsLeft
 one_less pids = record pids { next = pids.next + 1 }
 
@@ -56,8 +56,8 @@ pub record MayPost (words : Words) (rendez : RendezId) (threshold : ℕ) : Type 
   pub rendez_in : rendez.0 < rendez_of words
   pub not_top : threshold ≢ TOP_LEVEL
 
--- Own: the Rendez is tested first, then the threshold, then whether somebody is posted. Of these
--- only the last is worth keeping.
+-- Own: the Rendez is tested first, then the threshold, then whether somebody is posted. Only the
+-- last refusal is worth keeping.
 abbrev pub WhyNotPosted :
     Words → Process → RendezId → ℕ → Process → Fault → Type 0
 WhyNotPosted words before rendez threshold after fault.NoRendez =
@@ -86,8 +86,8 @@ IsOfWakeup (phase.Holding sleeper rendez level) done =
 IsOfWakeup other done = ⊥
 
 -- Own: whether a sleeper is still posted is read in the world of some run that has all steps of the
--- sleeper and of the raiser. It has steps of other processes too, of which neither knows: where
--- there is a third one it may have taken the sleeper.
+-- sleeper and of the raiser. The run has steps of other processes too, of which neither knows: a
+-- third process may have taken the sleeper.
 pub record IsChecked (words : Words) (sleeper raiser : Process) (released : Bool) : Type 0 where
   pub run : List Entry
   pub legal : IsRun (procs_of words) (rendez_of words) run

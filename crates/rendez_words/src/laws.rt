@@ -10,8 +10,8 @@ ghost use Rattle.rendez_words.specs.Laws.{ThreadsKeepPromises, EachSleeperHasAPl
 ghost use Rattle.rendez_words.specs.Laws.{SeatsKnowPhases, PidsToComeAreUnused, ReceiptsRelease};
 ghost use Rattle.rendez_words.specs.Rule.{ShowsCore};
 
-/// No wakeup is lost and no mark is stray, each sleep ends with just the notes that were pending,
-/// and one that ends without notes has a cause.
+/// No wakeup is lost and no mark is stray. Each sleep ends with just the notes that were pending,
+/// and a sleep that ends without notes has a cause.
 pub fn threads_keep_promises()
     ensures { ThreadsKeepPromises }
 {}
@@ -21,14 +21,14 @@ pub fn each_sleeper_has_a_place()
     ensures { EachSleeperHasAPlace }
 {}
 
-/// What a seat knows is so of its process, and a pid to come has made no step.
+/// What a seat knows holds of its process, and a pid to come has made no step.
 pub fn seats_know_their_own()
     ensures phases { SeatsKnowPhases }
     ensures pids { PidsToComeAreUnused }
     ensures receipts { ReceiptsRelease }
 {}
 
-/// The rule is not empty: each state here breaks it, for a reason of its own.
+/// The rule is not empty: each of these states breaks it, for a reason of its own.
 pub fn rule_can_be_broken()
     // What is lost or stray.
     ensures wakeup_is_lost { ¬ (ShowsCore (with_procs 2) wakeup_is_lost) }
@@ -44,7 +44,7 @@ pub fn rule_can_be_broken()
     ensures joined_with_itself { ¬ (ShowsCore (with_procs 1) process_is_joined_with_itself) }
 {}
 
-/// And it forbids no more than it says: a sleeper may be posted below the level until the wakeup
+/// The rule forbids no more than it says: a sleeper may be posted below the level until the wakeup
 /// that raised it has returned.
 pub fn rule_can_be_kept()
     ensures { ShowsCore (with_procs 2) wakeup_goes_on }

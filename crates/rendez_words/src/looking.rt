@@ -1,6 +1,6 @@
-//! How a process looks at its flags, and parks until they change. A process parks on what it saw
-//! there after its announcement, and on nothing else: `look_announced` alone gives a `Seen`, and
-//! `park` alone spends it.
+//! How a process looks at its flags, and parks until they change. A process parks only on what it
+//! saw in its flags after its announcement: `look_announced` alone gives a `Seen`, and `park` alone
+//! spends it.
 ghost use Rattle.std.specs.Prelude.{◌≡◌, ◌<◌, ◌%◌, ◌^◌, OnErr, IfOk, IfErr, MatchResult};
 ghost use Rattle.std.specs.Bool.{OnTrue, OnFalse};
 ghost use Rattle.sleep_core.specs.Table.Cell.{FlagsOf};
@@ -20,7 +20,7 @@ use sleep_core::{Event, ProcFlags};
 use std::marker::Brand;
 use std::sync::Wait;
 
-/// What a process saw in its flags after its announcement, and they don't end its wait.
+/// What a process saw in its flags after its announcement: flags that don't end its wait.
 #[must_use]
 pub(crate) struct Seen<'a> {
     announced: &'a Announced,
@@ -28,7 +28,7 @@ pub(crate) struct Seen<'a> {
 }
 
 impl Words {
-    /// Looks at the flags of the process: what they are where they end its wait, or else the word.
+    /// Looks at the flags of the process: the flags where they end its wait, or else the word.
     // Step Look: load of the flags. Seat: Asleep, then Woken or Leaving, or Awaiting, then Woken;
     // as it was where the flags don't end its wait.
     pub(crate) fn look_at(&self, caller: &mut Caller, notes_end: bool) -> Result<ProcFlags, u64>
@@ -53,7 +53,7 @@ impl Words {
         }
     }
 
-    /// The same, of a process that has said that it parks.
+    /// The same for a process that has announced that it parks.
     // A mark that found it awake came before it said so, and this look comes after: it sees that.
     pub(crate) fn look_announced<'a>(
         &self,

@@ -1,7 +1,7 @@
-//! Who parks. What a process says here is no word of the table, and decides nothing: it keeps a
-//! mark and a note from calling the system where the process does not park. Each step of parking
-//! and of waking gives a value that the next one spends, and that can't be dropped. `put` and `get`
-//! alone touch the words, and tell what they wrote and found.
+//! Who parks. What a process announces here is no word of the table, and decides nothing: it keeps
+//! a mark and a note from a system call where the process does not park. Each step of parking and
+//! of waking gives a value that only the next step spends, and that can't be dropped. `put` and
+//! `get` alone touch the words, and return what they wrote and found.
 ghost use Rattle.std.specs.Prelude.{◌≡◌, ◌≢◌, ◌==◌, ◌<◌, ◌^◌, IfOk};
 ghost use Rattle.rendez_words.specs.declared.parking.TheConstants.{AWAKE, PARKS};
 
@@ -12,13 +12,13 @@ use std::sync::atomic::Ordering::SeqCst;
 use sync_base::Pid;
 use sync_base::line::LINE;
 
-/// What a process says that doesn't park.
+/// The word of a process that doesn't park.
 const AWAKE: u64 = 0;
 
-/// What a process says that parks, or is about to.
+/// The word of a process that parks, or is about to.
 const PARKS: u64 = 1;
 
-/// What each process says of itself: the first word of its line. The others are never used.
+/// What each process announces: the first word of its line. The other words are never used.
 #[derive(Drop)]
 pub struct Parking {
     parks: Vec<AtomicU64>,
@@ -33,14 +33,14 @@ impl Model for Parking {
     ghost view = { λ parking. length parking.parks.items / LINE };
 }
 
-/// What a process says of itself, as it was written or found.
+/// What a process announces, as it was written or found.
 #[derive(Clone, Copy)]
 pub(crate) struct Said {
     pid: u64,
     word: u64,
 }
 
-/// A process has said that it parks. `leave` spends it.
+/// A process has announced that it parks. `leave` spends it.
 #[must_use]
 pub(crate) struct Announced {
     said: Said,
@@ -54,7 +54,8 @@ pub(crate) struct Unwoken {
     found: u64,
 }
 
-/// What is said by a process that is to be woken. Who parks is roused, and others are passed.
+/// The announcement of a process that is to be woken. `rouse` is for a process that parks, `pass`
+/// for any other.
 #[must_use]
 pub(crate) struct Found {
     said: Said,
@@ -72,7 +73,8 @@ impl Parking {
         Ok(Parking { parks })
     }
 
-    /// Says that the process is about to park. It has to look at its flags again before it does.
+    /// Announces that the process is about to park. It has to look at its flags again before it
+    /// does.
     // A mark that finds it awake comes before this step, so that look finds the mark.
     pub(crate) fn announce(&self, pid: Pid) -> Announced
         requires { pid.0 < self.now }
@@ -82,7 +84,7 @@ impl Parking {
         Announced { said }
     }
 
-    /// Says that the process doesn't park.
+    /// Announces that the process doesn't park.
     pub(crate) fn leave(&self, announced: Announced) -> Said
         requires { announced.said.pid < self.now }
         ensures pid { result.pid ≡ announced.said.pid }
@@ -92,7 +94,7 @@ impl Parking {
         self.put(said.pid, AWAKE)
     }
 
-    /// Finds what is said by the process that is to be woken.
+    /// Finds the announcement of the process that is to be woken.
     pub(crate) fn find(&self, unwoken: Unwoken) -> Found
         requires { unwoken.pid < self.now }
         ensures { result.said.pid ≡ unwoken.pid }
@@ -123,7 +125,7 @@ impl Parking {
 }
 
 impl Announced {
-    /// The process that has said so.
+    /// The process that made the announcement.
     pub(crate) fn pid(&self) -> Pid
         ensures { result.0 ≡ self.now.said.pid }
     {
@@ -132,7 +134,7 @@ impl Announced {
 }
 
 impl Unwoken {
-    /// The flags of the process, in which this was found, were set.
+    /// The step that found this value in the flags of the process has set them.
     pub(crate) fn new(pid: Pid, found: u64) -> Unwoken
         ensures pid { result.pid ≡ pid.0 }
         ensures found { result.found ≡ found }
@@ -156,14 +158,15 @@ impl Found {
         self.said.word == PARKS
     }
 
-    /// It is woken by a call of the system.
+    /// The process is woken by a system call.
     pub(crate) fn rouse(self)
         requires { self.said.word ≡ PARKS }
     {
         let Found { said: _ } = self;
     }
 
-    /// It doesn't park, so it needs no call: it looks at its flags again before it does.
+    /// The process doesn't park, so it needs no system call: it looks at its flags again before it
+    /// does.
     pub(crate) fn pass(self)
         requires { self.said.word ≢ PARKS }
     {

@@ -1,5 +1,5 @@
-//! What a thread sees of the words that is no process: who is posted in a Rendez, its level, and
-//! the flags of a process. A peek is a load with no seat, of one word, and no step: it stands in no
+//! What a thread that is no process sees of the words: who is posted in a Rendez, its level, and
+//! the flags of a process. A peek is a load of one word, with no seat. It is no step: it is in no
 //! trace, and no contract says what it finds. The reader comes from `released`, which asks with two
 //! seats what a posted word says.
 ghost use Rattle.std.specs.Prelude.{◌<◌};

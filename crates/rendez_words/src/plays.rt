@@ -1,4 +1,4 @@
-//! What each kind of step tells its seat. These types are for the proofs alone.
+//! What a seat learns from each kind of step. These types are for the proofs alone.
 ghost use Rattle.rendez_words.specs.Plays.{HasStepped, HasMadeWhereEmpty, HasChecked};
 ghost use Rattle.rendez_words.specs.View.{one_less_view, given_view, joined_view};
 ghost use Rattle.rendez_words.specs.View.{sleeper_view, raiser_view};

@@ -1,5 +1,5 @@
-//! The steps of a wakeup, none of which waits. Above each step stand its operation, the seat before
-//! and after, and what the order rests on.
+//! The steps of a wakeup, none of which waits. The comment above each step has its operation, the
+//! seat before and after, and what the order rests on.
 ghost use Rattle.std.specs.Prelude.{◌≡◌, ◌<◌, ⊤, IfOk, IfErr, OnOk, MatchResult};
 ghost use Rattle.rendez_words.specs.Answers.{IfTaken};
 ghost use Rattle.rendez_words.specs.Process.{phase_in, sleeper_of};
@@ -17,8 +17,8 @@ use std::marker::Brand;
 use sync_base::{Fault, NoteSet, Pid, RendezId};
 
 impl Words {
-    /// Begins a wakeup: raises the level of the Rendez to at least this one.
-    /// Refuses as `NoRendez`. Takes no memory and doesn't wait.
+    /// Begins a wakeup: raises the level of the Rendez to at least `level`. Refuses as `NoRendez`.
+    /// Takes no memory and doesn't wait.
     // Step Raise: fetch_max of the level. Seat: Idle, then Owing.
     // It comes before the step Take: a process that posts itself after that take tests after this
     // step, and sees the level.
@@ -53,8 +53,8 @@ impl Words {
     }
 
     /// Takes the sleeper out of the Rendez, if there is one, whether or not its condition holds.
-    /// Where nobody is there the wakeup has returned, with its receipt.
-    /// Takes no memory and doesn't wait.
+    /// Where nobody is there, the wakeup has returned, with its receipt. Takes no memory and
+    /// doesn't wait.
     // Step Take: load of the posted word that finds nobody, or else a swap of it to 0.
     // Seat: Owing, then Idle, or Holding the sleeper.
     // A load that finds somebody is no step: the swap tells who it was, or that nobody is left.

@@ -16,12 +16,12 @@ use std::marker::Brand;
 use sync_base::Pid;
 
 impl Words {
-    /// Whether the sleeper is no longer posted. The receipt is one that was given with this seat.
-    /// Both states come back as they were. Takes no memory and doesn't wait.
+    /// Whether the sleeper is no longer posted. The receipt was given with this seat. Both states
+    /// come back as they were. Takes no memory and doesn't wait.
     ///
     /// It is there for the specification: tests alone call it.
     ///
-    /// It says nothing of who took the sleeper: a third process may have, whose wakeup has not
+    /// It does not say who took the sleeper: a third process may have, whose wakeup has not
     /// returned and whose steps neither of the two has seen. So a sleeper that is released, by a
     /// receipt that alone would not do it, need not have its mark yet.
     pub fn released(&self, asleep: Asleep, seat: Seat, done: &Done) -> Checked

@@ -1,6 +1,6 @@
 //! The rule of the words. The table has no slots. Its words are a line for each Rendez, with its
-//! posted word and its level, and then a line for each process, with its flags. The words after
-//! these in a line are 0 for ever.
+//! posted word and its level, and then a line for each process, with its flags. The other words of
+//! a line are 0 for ever.
 ghost use Rattle.rendez_words.specs.Rule.{ShowsCore};
 ghost use Rattle.rendez_words.specs.View.{first_view};
 

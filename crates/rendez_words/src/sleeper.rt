@@ -1,6 +1,6 @@
-//! The steps of a sleep. Above each step stand its operation, the seat before and after, and why
-//! the rule stays: the event that it makes is the core's, so the words and the process's own steps
-//! are those of a run that is one event longer.
+//! The steps of a sleep. The comment above each step has its operation, the seat before and after,
+//! and why the rule stays: its event is the core's, so the words and the process's own steps are
+//! those of a run that is one event longer.
 ghost use Rattle.std.specs.Prelude.{◌≡◌, IfOk, IfErr, OnOk, MatchResult};
 ghost use Rattle.sleep_core.specs.declared.answer.Answer.TheVariants as answer;
 ghost use Rattle.rendez_words.specs.Answers.{IfTested, IfLooked, IfWithdrawn};
@@ -129,7 +129,8 @@ impl Words {
         }
     }
 
-    /// Takes the process out of the Rendez, unless a wakeup has. Takes no memory and doesn't wait.
+    /// Takes the process out of the Rendez, unless a wakeup has taken it. Takes no memory and
+    /// doesn't wait.
     // Step Withdraw: compare_exchange of the posted word from pid + 1 to 0.
     // Seat: Leaving, then Out, or Awaiting where a wakeup has taken the process.
     pub fn withdraw(&self, leaving: Leaving) -> WithdrawAnswer

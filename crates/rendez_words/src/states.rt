@@ -1,5 +1,5 @@
-//! The states between two steps: each names the calls that spend it. A seat may be dropped, the
-//! others can't be: a sleep and a wakeup are made to their end.
+//! The states between two steps: each names the calls that spend it. A seat may be dropped. The
+//! other states can't be: a sleep and a wakeup are made to their end.
 use crate::rule::Stepper;
 use std::marker::Model;
 use sync_base::{Fault, NoteSet, Pid, RendezId};

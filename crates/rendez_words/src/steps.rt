@@ -1,8 +1,8 @@
-//! One function for each atomic operation, which makes an event of the core; and one that swaps
-//! only where a load finds something. All orderings are the table's. Each asks that the operation
-//! does to its word what the event does to its cell, and tells what the table answers to the event
-//! from what was found there. Who calls one passes `Brand`, and the proof picks the event that it
-//! stands for.
+//! One function for each atomic operation, which makes an event of the core; and one function that
+//! swaps only where a load finds something. All orderings are the table's. Each asks that the
+//! operation does to its word what the event does to its cell, and ensures what the table answers
+//! to the event from what was found there. The caller passes `Brand`, and the proof picks the event
+//! that it stands for.
 ghost use Rattle.std.specs.Prelude.{◌≡◌, ◌==◌, ◌+◌, ◌<◌, max, bit_or};
 ghost use Rattle.std.specs.Bool.{OnTrue, OnFalse};
 ghost use prog.Atomic.{either};
@@ -56,7 +56,7 @@ impl Words {
         self.table.shared.load::<Make<M>>(&mut caller.stepper, word)
     }
 
-    /// Writes the word, and answers what it was.
+    /// Writes the word, and returns what it was.
     pub(crate) fn swap<M: Making>(
         &self,
         caller: &mut Caller,
@@ -75,8 +75,9 @@ impl Words {
             .swap::<Make<M>>(&mut caller.stepper, word, new)
     }
 
-    /// Empties the word, and answers what it was. A load that finds it empty is the step, and the
-    /// word's line stays with the processes that look at it; else the step is a swap.
+    /// Empties the word, and returns what it was. Where a load finds the word empty, the load is
+    /// the step, and the word's line stays with the processes that look at it; else the step is a
+    /// swap.
     pub(crate) fn empty_word(&self, caller: &mut Caller, word: usize, event: Event) -> u64
         requires table { caller.old.table ≡ table_of self.now }
         requires step { IsStep (sizes_of self.now) event (part_of caller.old) word (λ _. 0) }
@@ -107,7 +108,7 @@ impl Words {
         found == 0
     }
 
-    /// Writes the word where it is `old`, and answers what it was.
+    /// Writes the word where it is `old`, and returns what it was.
     pub(crate) fn compare_exchange<M: Making>(
         &self,
         caller: &mut Caller,
@@ -128,7 +129,7 @@ impl Words {
             .compare_exchange::<Make<M>>(&mut caller.stepper, word, old, new)
     }
 
-    /// Raises the word to `least`, and answers what it was.
+    /// Raises the word to `least`, and returns what it was.
     pub(crate) fn fetch_max<M: Making>(
         &self,
         caller: &mut Caller,
@@ -147,7 +148,7 @@ impl Words {
             .fetch_max::<Make<M>>(&mut caller.stepper, word, least)
     }
 
-    /// Sets bits of the flags of the process, which has then yet to be woken.
+    /// Sets bits of the flags of the process, which has yet to be woken then.
     pub(crate) fn set_flags(
         &self,
         caller: &mut Caller,

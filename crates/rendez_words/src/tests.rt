@@ -1,4 +1,4 @@
-//! Sleepers that surely park. All other tests of the words stand in `tests_objects`.
+//! Sleepers that surely park. All other tests of the words are in `tests_objects`.
 ghost use Rattle.std.specs.Prelude.{◌≡◌};
 ghost use Rattle.rendez_words.specs.Words.{IsProcessOf, ArePidsOf, procs_of};
 

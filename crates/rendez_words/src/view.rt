@@ -31,9 +31,10 @@ pub struct Part {
 pub enum View {
     /// The seat of one process.
     Process(Part),
-    /// The pids not yet given: this one and those above it.
+    /// The pids not yet given: this pid and all above it.
     Pids(u64),
-    /// The seats of two processes, joined: one that is asleep, and one that was given a receipt.
+    /// The seats of two processes, joined: a process that is asleep, and a process that was given a
+    /// receipt.
     Joined(Part, Part),
     /// A seat that was joined into another.
     Spent,

@@ -11,9 +11,9 @@ use crate::states::Caller;
 use crate::words::Words;
 
 impl Words {
-    /// Wakes the process where it parks, or is about to. Otherwise it is a load, and calls no
-    /// system. Who calls it has set the flags: a process that is woken before looks, and parks
-    /// again, and nobody would wake it then.
+    /// Wakes the process where it parks, or is about to. Otherwise this is a load, and no system
+    /// call. The caller has set the flags: a process that is woken before that looks, and parks
+    /// again, and then nobody would wake it.
     pub(crate) fn wake(&self, unwoken: Unwoken, _by: &Caller)
         requires pid { unwoken.pid < procs_of self.now }
         requires set { HasSet _by.now unwoken.pid }

@@ -86,7 +86,7 @@ impl Words {
         Ok(Opened { words, seat, pids })
     }
 
-    /// The seat of the next pid. Refuses as `NoProc` where none is left. Takes no memory and
+    /// The seat of the next pid. Refuses as `NoProc` where no pid is left. Takes no memory and
     /// doesn't wait.
     pub fn split(&self, pids: &mut Pids) -> Result<Seat, Fault>
         requires pids { ArePidsOf self.now pids.old }

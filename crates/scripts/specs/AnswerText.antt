@@ -23,7 +23,8 @@ read_text (Got piece) = codes "got " ++ hex_text piece
 read_text Empty = codes "empty"
 read_text End = codes "end"
 
--- A refused operation. A pipe script has no other: each limit and writer is tested as it is read.
+-- A refused operation. A pipe script gives no other refusals: each limit and writer is tested as it
+-- is read.
 abbrev pub fault_text : Fault → List ℕ
 fault_text TooBig = codes "too big"
 fault_text BadCount = codes "bad count"

@@ -1,5 +1,5 @@
 -- A line `notepg`, as it is read and answered: its list of processes is walked as it is written,
--- but for the first.
+-- but for the first process.
 use Rattle.std.specs.Prelude.{◌≡◌, ℕ, List, ◌∷◌, ◌++◌, Option, Some}
 use Rattle.std.specs.Option.{option_map}
 use Rattle.sync_base.specs.declared.note.NoteSet.{NoteSet}
@@ -30,7 +30,7 @@ pub record AskGroup (words : List (List ℕ)) (group : GroupNote) : Type 0 where
   pub written : listed group.pids ≡ Some pids
   pub ask : group_of words ≡ Some (notes_to group.notes pids)
 
--- the text begins with a line that asks for them, before the rest
+-- the text begins with a line that asks for these notes, before the rest
 pub record BeginsWithGroup (text : List ℕ) (group : GroupNote) (rest : List ℕ) : Type 0 where
   pub words : List (List ℕ)
   pub begins : BeginsWithLine text words rest

@@ -14,15 +14,15 @@ use Rattle.scripts.specs.declared.script.TheConstants.{MAX_LINE}
 abbrev pub is_line_feed : ℕ → Bool
 is_line_feed b = b == LINE_FEED
 
--- whether a byte stands between words
+-- whether a byte comes between words
 abbrev pub is_space : ℕ → Bool
 is_space b = b == SPACE
 
--- whether a byte stands between kinds of notes
+-- whether a byte comes between kinds of notes
 abbrev pub is_comma : ℕ → Bool
 is_comma b = b == COMMA
 
--- a byte in front of these parts belongs to the first of them
+-- a byte before these parts belongs to the first of them
 abbrev pub onto_first : ℕ → List (List ℕ) → List (List ℕ)
 onto_first b [] = []
 onto_first b (part ∷ parts) = (b ∷ part) ∷ parts
@@ -54,11 +54,11 @@ lines_of text = all_but_last (parts_of is_line_feed text)
 abbrev pub cut_line_of : List ℕ → List ℕ
 cut_line_of text = last_of (parts_of is_line_feed text)
 
--- the words of a line: one space stands between each two
+-- the words of a line: one space is between each two
 abbrev pub words_of : List ℕ → List (List ℕ)
 words_of line = parts_of is_space line
 
--- the parts of what follows a parting byte, if one stood there
+-- the parts of what follows a parting byte, if there was one
 abbrev pub parts_of_rest : (ℕ → Bool) → Option (Bor (List ℕ)) → List (List ℕ)
 parts_of_rest is_parting None = []
 parts_of_rest is_parting (Some rest) = parts_of is_parting rest.now
@@ -72,7 +72,7 @@ abbrev pub four_of : List ℕ → ℕ
 four_of text =
     get_or text 0 0 + 256 * get_or text 1 0 + 65536 * get_or text 2 0 + 16777216 * get_or text 3 0
 
--- they are bytes
+-- the first four are bytes
 pub record FourAreBytes (text : List ℕ) : Type 0 where
   pub first : get_or text 0 0 < 256
   pub second : get_or text 1 0 < 256
@@ -94,7 +94,7 @@ value_of digits =
     then Some (decimal_value digits)
     else None
 
--- the number that a word spells: digits with no zero in front, but for the number 0
+-- the number that a word spells: digits with no leading zero, but for the number 0
 abbrev pub number_of : List ℕ → Option ℕ
 number_of [] = None
 number_of (digit ∷ []) = value_of (digit ∷ [])
@@ -105,13 +105,13 @@ abbrev pub number_within : ℕ → ℕ → List ℕ → Option ℕ
 number_within least most word =
     option_and_then (λ n. if nat_le least n && nat_le n most then Some n else None) (number_of word)
 
--- the first bytes of the text are so many digits, which spell this number
+-- the first bytes of the text are this many digits, which spell this number
 pub record LeadingDigits (text : List ℕ) (number count : ℕ) : Type 0 where
   pub within : count ≤ length text
   pub digits : list_all is_ascii_digit (take count text) ≡ true
   pub value : number ≡ decimal_value (take count text)
 
--- they are all digits that the text begins with
+-- these are all digits that the text begins with
 pub record AllLeadingDigits (text : List ℕ) (number count : ℕ) : Type 0 where
   pub leading : LeadingDigits text number count
   pub end : is_ascii_digit (get_or text count 0) ≡ false
@@ -159,7 +159,7 @@ pub record LineAsks {A : Type 0} (asked_by : List (List ℕ) → Option A) (text
   pub begins : BeginsWithLine text words rest
   pub asks : asked_by words ≡ Some asked
 
--- the text begins with no line whose words ask for anything, but for one that is too long
+-- the text begins with no line whose words ask for anything, unless that line is too long
 abbrev pub NoLineAsks : {A : Type 0} → (List (List ℕ) → Option A) → List ℕ → Type 0
 NoLineAsks asked_by text =
     (words : List (List ℕ)) (rest : List ℕ) (begins : BeginsWithLine text words rest)

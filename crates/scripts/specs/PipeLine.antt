@@ -1,4 +1,4 @@
--- What the code reads off a line, beside what the grammar says of it.
+-- What the code reads off a line, beside what the grammar says of the line.
 use Rattle.std.specs.Prelude.{◌≡◌, ℕ, List, [], ◌∷◌, ◌++◌, codes}
 use Rattle.sync_base.specs.Pipe.{PipeState, opening_in}
 use Rattle.sync_base.specs.PlainPipe.{Contents, Shows}
@@ -11,7 +11,7 @@ use Rattle.scripts.specs.declared.pipe_line.PipeOp.{PipeOp}
 use Rattle.scripts.specs.declared.pipe_line.PipeOp.TheVariants.{Write, Read, Hangup}
 use Rattle.scripts.specs.PipeScript.{Op, Writes, Reads, Hangs_up}
 
--- the pipe that is opened so
+-- the pipe that is opened like this
 abbrev pub opened_by : Opening → PipeState
 opened_by opening = opening_in opening.mode opening.limit
 

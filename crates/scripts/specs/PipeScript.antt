@@ -1,4 +1,4 @@
--- The language of pipe scripts: its lines, and what each of them does to one direction of a pipe.
+-- The language of pipe scripts: its lines, and what each line does to one direction of a pipe.
 use Rattle.std.specs.Prelude.{◌-◌, ℕ, if◌then◌else◌, List, [], ◌∷◌, codes, Option, None, Some}
 use Rattle.std.specs.Prelude.{option_and_then, Result, Ok, Err}
 use Rattle.std.specs.Option.{option_map}
@@ -71,18 +71,19 @@ op_of (verb ∷ words) =
     else if is_word verb (codes "write") then write_of words
     else None
 
--- What is written for what a write comes to, and the state after it. A refused one changes nothing.
+-- What is written for the result of a write, and the state after it. A refused write changes
+-- nothing.
 abbrev pub write_answered : PipeState → Write → Result WriteAnswer Fault → Answered PipeState
 write_answered s write (Ok answer) =
     record { text = write_text answer; after = after_write s write answer }
 write_answered s write (Err fault) = record { text = fault_text fault; after = s }
 
--- the same for a read of at most so many bytes
+-- the same for a read of at most this many bytes
 abbrev pub read_answered : PipeState → ℕ → Result ReadAnswer Fault → Answered PipeState
 read_answered s most (Ok answer) = record { text = read_text answer; after = after_read most s }
 read_answered s most (Err fault) = record { text = fault_text fault; after = s }
 
--- what an operation is answered
+-- the answer to an operation
 abbrev pub answered : PipeState → Op → Answered PipeState
 answered s (Writes writer bytes) =
     write_answered s (record { writer = writer; bytes = bytes }) (write_result s bytes)

@@ -24,7 +24,7 @@ use Rattle.scripts.specs.Lines.{parts_of, is_comma, is_word, words_of, number_of
 use Rattle.scripts.specs.Script.{Answered, Language, Transcript, told}
 use Rattle.scripts.specs.EventText.{event_text}
 
--- these sizes, where each of them is one
+-- these sizes, where both are given
 abbrev pub size : Option ℕ → Option ℕ → Option Size
 size (Some procs) (Some rendez) = Some (record { procs = procs; rendez = rendez })
 size procs rendez = None
@@ -42,7 +42,7 @@ abbrev pub lone_pid : List (List ℕ) → Option Pid
 lone_pid (pid ∷ []) = option_map (λ n. record { 0 = n }) (number_of pid)
 lone_pid words = None
 
--- these numbers, where each of them is one
+-- these numbers, where all are given
 abbrev pub operands : Option ℕ → Option ℕ → Option ℕ → Option Operands
 operands (Some pid) (Some rendez) (Some level) =
     Some (record { pid = record { 0 = pid }; rendez = record { 0 = rendez }; level = level })
@@ -69,16 +69,16 @@ abbrev pub IsFirst : List ℕ → List ℕ → Option (Bor (List ℕ)) → Type 
 IsFirst word list None = list ≡ word
 IsFirst word list (Some rest) = list ≡ word ++ COMMA ∷ rest.now
 
--- it is not
+-- this word is not the first part of the list
 pub record IsNotFirst (word list : List ℕ) : Type 0 where
   pub not_alone : ¬ (list ≡ word)
   pub not_before : (rest : List ℕ) → ¬ (list ≡ word ++ COMMA ∷ rest)
 
--- the set with this kind too, which is not there yet
+-- the set with this kind too, if the set does not have it yet
 abbrev pub kind_added : NoteSet → Note → Option NoteSet
 kind_added set note = if holds set note then None else Some (joined set (only note))
 
--- the set with these kinds too, each of them once
+-- the set with these kinds too, if each of them is new
 abbrev pub with_kinds : NoteSet → List (List ℕ) → Option NoteSet
 with_kinds set [] = Some set
 with_kinds set (word ∷ words) =
@@ -91,7 +91,7 @@ abbrev pub kinds_of : List ℕ → Option NoteSet
 kinds_of word =
     if is_word word (codes "-") then Some no_notes else with_kinds no_notes (parts_of is_comma word)
 
--- these notes to that process, where both are there
+-- these notes to that process, where both are given
 abbrev pub note_event : Option ℕ → Option NoteSet → Option Event
 note_event (Some pid) (Some notes) = Some (event.Note (record { 0 = pid }) notes)
 note_event pid notes = None
@@ -133,7 +133,7 @@ event_with verb.Note words = note_of words
 event_with verb.Drain words = option_map event.Drain (lone_pid words)
 event_with verb.Check words = option_map event.Check (lone_pid words)
 
--- a verb that a process alone follows
+-- a verb that only a process follows
 abbrev pub TakesPid : Verb → Type 0
 TakesPid verb.Post = ⊥
 TakesPid verb.Raise = ⊥
@@ -145,12 +145,12 @@ abbrev pub event_of : List (List ℕ) → Option Event
 event_of [] = None
 event_of (word ∷ words) = option_and_then (λ v. event_with v words) (verb_of word)
 
--- whether a number is above the one before it, where one is before it
+-- whether a number is above the one before it, if there is one before it
 abbrev pub is_above : Option ℕ → ℕ → Bool
 is_above None n = true
 is_above (Some before) n = nat_lt before n
 
--- the number that a word spells, where it is above the one before it
+-- the number that a word spells, if it is above the one before it
 abbrev pub next_rising : Option ℕ → List ℕ → Option ℕ
 next_rising before word =
     option_and_then (λ n. if is_above before n then Some n else None) (number_of word)
@@ -170,7 +170,7 @@ pids_of word = rising_after None (parts_of is_comma word)
 abbrev pub notes_to : NoteSet → List ℕ → List Event
 notes_to notes pids = map (λ n. event.Note (record { 0 = n }) notes) pids
 
--- the same, where both are there
+-- the same, where both are given
 abbrev pub group_notes : Option (List ℕ) → Option NoteSet → Option (List Event)
 group_notes (Some pids) (Some notes) = Some (notes_to notes pids)
 group_notes pids notes = None
@@ -181,7 +181,7 @@ group_of (verb ∷ pids ∷ kinds ∷ []) =
     if is_word verb (codes "notepg") then group_notes (pids_of pids) (kinds_of kinds) else None
 group_of words = None
 
--- a line but the first: one event, or those of a group
+-- a line but the first: one event, or the events of a group
 abbrev pub events_of : List (List ℕ) → Option (List Event)
 events_of words = option_map_or (λ e. Some (e ∷ [])) (event_of words) (group_of words)
 
@@ -205,7 +205,7 @@ joined_lines [] = []
 joined_lines (line ∷ []) = line
 joined_lines (line ∷ next ∷ lines) = line ++ LINE_FEED ∷ joined_lines (next ∷ lines)
 
--- what events are answered, a line for each
+-- the answers to events, a line for each
 abbrev pub answer_lines : State → List Event → List (List ℕ)
 answer_lines state events = map event_text (answers_to_all state events)
 
@@ -219,7 +219,7 @@ answered state events =
 abbrev pub lost_text : State → List ℕ
 lost_text state = if has_lost_wakeup state then codes "lost yes" else codes "lost no"
 
--- the language: `world PROCS RENDEZ` opens a world, and at the end it is said whether a wakeup was
+-- the language: `world PROCS RENDEZ` opens a world, and the closing line says whether a wakeup was
 -- lost
 abbrev pub schedule_language : Language State
 schedule_language =

@@ -13,7 +13,7 @@ pub record Answered (S : Type 0) : Type 0 where
   pub text : List ℕ
   pub after : S
 
--- A language of scripts over a state. `None` is given for a line that is not in its grammar.
+-- A language of scripts over a state. A line that is not in its grammar gives `None`.
 pub record Language (S : Type 0) : Type 0 where
   pub opened_by : List ℕ → Option S  -- the state that the first line opens
   pub answer_to : S → List ℕ → Option (Answered S)  -- what each other line does
@@ -32,7 +32,7 @@ fault_at number = record { output = []; fault = Some number }
 abbrev pub answer_then : List ℕ → Transcript → Transcript
 answer_then text told = record { output = text ++ LINE_FEED ∷ told.output; fault = told.fault }
 
--- what a line gives, where it is not too long
+-- what a line gives, if it is not too long
 abbrev pub if_fits : {A : Type 0} → (List ℕ → Option A) → List ℕ → Option A
 if_fits read line = if nat_le (length line) MAX_LINE then read line else None
 
@@ -45,8 +45,8 @@ pub record Stage (S : Type 0) : Type 0 where
 abbrev pub stage : {S : Type 0} → S → ℕ → Stage S
 stage state number = record { state = state; number = number }
 
--- what these lines say, from where a script has come to. After them the script ends, or a line
--- that is cut or stands too far on.
+-- what these lines say, from where a script has come to. After them comes the end of the script, or
+-- a line that is cut or begins too far on.
 abbrev pub told_from : {S : Type 0} → Language S → Bool → Stage S → List (List ℕ) → Transcript
 told_from {S} language is_cut here [] =
     if is_cut
@@ -76,10 +76,10 @@ is_cut_off input =
 abbrev pub told : {S : Type 0} → Language S → List ℕ → Transcript
 told language input = lines_told language (is_cut_off input) (lines_of (take MAX_SCRIPT input))
 
--- What a program that follows a language keeps of a state, by its own lights: T stands for S where
+-- What a program that follows a language keeps of a state, in its own form: T stands for S where
 -- `stands` says so.
 
--- the line opened this, by what the language says
+-- the line opened this, as the language says
 abbrev pub Opens : {T S : Type 0} → (T → S → Type 0) → Option S → Option T → Type 0
 Opens stands None None = Unit {0}
 Opens stands (Some s) (Some t) = stands t s
@@ -91,7 +91,7 @@ pub record Growth : Type 0 where
   pub before : List ℕ
   pub after : List ℕ
 
--- it went from the one to the other
+-- the text went from one to the other
 abbrev pub growth : List ℕ → List ℕ → Growth
 growth before after = record { before = before; after = after }
 
@@ -101,13 +101,14 @@ pub record Following (S : Type 0) : Type 1 where
   pub from : S  -- the state for which what it kept stood before
   pub StandsFor : S → Type 0  -- whether what it keeps now stands for a state
 
--- it went from this state of the language, and what it keeps now stands for these
+-- the program went on from this state of the language, and what it keeps now stands for these
+-- states
 abbrev pub following : {S : Type 0} → Language S → S → (S → Type 0) → Following S
 following language from StandsFor =
     record { language = language; from = from; StandsFor = StandsFor }
 
--- The text begins with a line that was answered after what was written before, and goes on with
--- the rest.
+-- The text begins with a line, and the rest follows. The line was answered, and its answer comes
+-- after what was written before.
 pub record FirstAnswered {S : Type 0} (follows : Following S) (text rest : List ℕ)
     (output : Growth) : Type 0 where
   pub line : List ℕ
@@ -119,14 +120,14 @@ pub record FirstAnswered {S : Type 0} (follows : Following S) (text rest : List 
   pub stands_after : follows.StandsFor answered.after
   pub written : output.after ≡ output.before ++ answered.text ++ LINE_FEED ∷ []
 
--- the text has no whole line, or its first one is not in the grammar
+-- the text has no whole line, or its first line is not in the grammar
 abbrev pub IsStuck : {S : Type 0} → Following S → List ℕ → Type 0
 IsStuck follows text =
     ((lines_of text ≡ []) × follows.StandsFor follows.from)
     ⊎ ((line : List ℕ) × (lines : List (List ℕ)) × (lines_of text ≡ line ∷ lines)
     × (if_fits (follows.language.answer_to follows.from) line ≡ None))
 
--- the first line of the text was answered, or there is none that could be
+-- the first line of the text was answered, or no line could be
 abbrev pub AnswersFirst : {S : Type 0} → Following S → List ℕ → Option (Bor (List ℕ)) → Growth
     → Type 0
 AnswersFirst follows text (Some rest) output = FirstAnswered follows text rest.now output

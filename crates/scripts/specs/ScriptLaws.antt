@@ -8,7 +8,7 @@ use Rattle.scripts.specs.Script.{Language, told}
 use Rattle.scripts.specs.PipeScript.{pipe_told}
 use Rattle.scripts.specs.Schedule.{schedule_language}
 
--- the language, but that nothing is written after the last line
+-- the language, except that nothing is written after the last line
 abbrev pub without_closing_line : {S : Type 0} → Language S → Language S
 without_closing_line language =
     record {
@@ -26,11 +26,11 @@ abbrev pub lines_text : List (List ℕ) → List ℕ
 lines_text [] = []
 lines_text (line ∷ lines) = line ++ LINE_FEED ∷ lines_text lines
 
--- the whole lines of a script, as far as it is looked at
+-- the whole lines of a script, in the part of it that is looked at
 abbrev pub whole_lines : List ℕ → List (List ℕ)
 whole_lines input = lines_of (take MAX_SCRIPT input)
 
--- the script of the first k of these alone
+-- the script of the first k of these lines alone
 abbrev pub first_lines : ℕ → List ℕ → List ℕ
 first_lines k input = lines_text (take k (whole_lines input))
 
@@ -38,7 +38,7 @@ first_lines k input = lines_text (take k (whole_lines input))
 abbrev pub LinesMakeText : Type 0
 LinesMakeText = (text : List ℕ) → lines_text (lines_of text) ++ cut_line_of text ≡ text
 
--- a script that goes on keeps each answer of its front
+-- a script that goes on keeps each answer of its prefix
 abbrev pub AnswersAreFinal : {S : Type 0} → Language S → Type 0
 AnswersAreFinal language =
     (front rest : List ℕ) →
@@ -52,7 +52,7 @@ OutputIsFinal {S} language =
     (more : List ℕ) ×
     ((told language (front ++ rest)).output ≡ (told language front).output ++ more)
 
--- and in any language the front of a script without a fault, cut after a line, has none
+-- and in any language the prefix of a script without a fault, cut after a line, has no fault
 abbrev pub FrontHasNoFault : {S : Type 0} → Language S → Type 0
 FrontHasNoFault language =
     (front rest : List ℕ) → cut_line_of front ≡ [] → 0 < length front →
@@ -70,7 +70,7 @@ ClosingLineComesLast {S} language =
     (input : List ℕ) → (told language input).fault ≡ None →
     (s : S) × ((told language input).output ≡ answers_of language input ++ language.closing_line s)
 
--- where a line is at fault, there are the answers alone
+-- where a line is at fault, only the answers are written
 abbrev pub FaultHasNoClosingLine : {S : Type 0} → Language S → Type 0
 FaultHasNoClosingLine language =
     (input : List ℕ) (n : ℕ) → (told language input).fault ≡ Some n →
@@ -88,18 +88,18 @@ FaultLeavesAnswers language =
     (input : List ℕ) (n : ℕ) → (told language input).fault ≡ Some n →
     (told language input).output ≡ answers_of language (first_lines (n - 1) input)
 
--- a fault in the first line leaves none
+-- a fault in the first line leaves no answers
 abbrev pub FirstFaultLeavesNone : {S : Type 0} → Language S → Type 0
 FirstFaultLeavesNone language =
     (input : List ℕ) → (told language input).fault ≡ Some 1 → (told language input).output ≡ []
 
--- and the lines before the one at fault, where there are any, are a script without a fault
+-- and the lines before the line at fault, if there are any, are a script without a fault
 abbrev pub LinesBeforeHaveNoFault : {S : Type 0} → Language S → Type 0
 LinesBeforeHaveNoFault language =
     (input : List ℕ) (n : ℕ) → (told language input).fault ≡ Some n → 1 < n →
     (told language (first_lines (n - 1) input)).fault ≡ None
 
--- what is written for a pipe script is a front of what is written for each script that it begins
+-- what is written for a pipe script is a prefix of what is written for each script that it begins
 abbrev pub PipeOutputIsFinal : Type 0
 PipeOutputIsFinal =
     (front rest : List ℕ) →

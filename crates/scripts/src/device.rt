@@ -55,7 +55,7 @@ fn room_of(alloc: Global) -> Result<Vec<u8>, AllocError>
     Vec::from_elem(alloc, 0, CHUNK)
 }
 
-/// Puts bytes after others, in parts that the C library copies by vectors.
+/// Appends bytes, in parts that the C library copies by vectors.
 fn append(bytes: &mut Vec<u8>, more: &[u8]) -> Result<(), AllocError>
     ensures { OnOk result (bytes.new.items ≡ bytes.old.items ++ more.now) }
 {
@@ -68,7 +68,7 @@ fn append(bytes: &mut Vec<u8>, more: &[u8]) -> Result<(), AllocError>
     Ok(())
 }
 
-/// One read to the front of this room: how many bytes it gave, or nothing where a signal
+/// One read into the first bytes of this room: how many bytes it gave, or nothing where a signal
 /// interrupted it.
 fn read_some<R: Read>(reader: &mut R, room: &mut [u8]) -> Result<Option<usize>, Fault>
     ensures some { IfOk result (λ count. IfSome count (λ n. GivesSome (length room.old)
@@ -91,8 +91,8 @@ fn read_some<R: Read>(reader: &mut R, room: &mut [u8]) -> Result<Option<usize>, 
 
 /// Writes all of these bytes.
 ///
-/// Device: the writer failed, or took none of what it was offered. A write that a signal
-/// interrupted is tried again. Where there is nothing to write the writer is not called.
+/// Device: the writer failed, or took no byte of what it was offered. A write that a signal
+/// interrupted is tried again. Where there is nothing to write, the writer is not called.
 pub fn write_whole<W: Write>(writer: &mut W, bytes: &[u8]) -> Result<(), Fault>
     ensures ok { OnOk result (Appends (W.contents writer.old) (W.contents writer.new) bytes.now) }
     ensures err { OnErr result

@@ -7,7 +7,7 @@ ghost use Rattle.scripts.specs.Digits.{value_or_none};
 /// No digit has this value.
 const NONE: u16 = 256;
 
-/// Of each byte its value as a digit of either case, or `NONE`.
+/// For each byte its value as a digit of either case, or `NONE`.
 static VALUES: [u16; 256] = [
     256, 256, 256, 256, 256, 256, 256, 256, 256, 256, 256, 256, 256, 256, 256, 256, 256, 256, 256,
     256, 256, 256, 256, 256, 256, 256, 256, 256, 256, 256, 256, 256, 256, 256, 256, 256, 256, 256,
@@ -25,10 +25,10 @@ static VALUES: [u16; 256] = [
     256, 256, 256,
 ];
 
-/// Puts the bytes of these digits into the room; false where one is no digit. The crate `hex`
-/// branches on the class of each digit, which is guessed wrong one time in three; a table has no
-/// branch, and a digit that is none is found after the loop, by the bits of all sums. As a
-/// function of its own the loop has the registers to itself.
+/// Puts the bytes of these digits into the room; false where a byte is no digit. The crate `hex`
+/// branches on the class of each digit, and one guess in three is wrong. A table has no branch, and
+/// a byte that is no digit is found after the loop, by the bits of all sums. As a function of its
+/// own the loop has the registers to itself.
 #[inline(never)]
 pub fn decode(digits: &[u8], room: &mut [u8]) -> bool
     requires { length digits.now ≡ 2 * length room.old }

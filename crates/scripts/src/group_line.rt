@@ -25,7 +25,7 @@ pub struct GroupNote<'t> {
 }
 
 /// The notes that the first line of a text asks for, and what follows that line; nothing where the
-/// text has no whole line, or that line is no such line or too long.
+/// text has no whole line, or that line is no line `notepg` or too long.
 #[inline(always)]
 pub fn group_at(text: &[u8]) -> Option<(GroupNote<'_>, &[u8])>
     ensures { MatchOption result (NoLineAsks group_of text.now)
@@ -49,7 +49,7 @@ fn parse_pids(word: &[u8]) -> Option<PidList<'_>>
     Some(PidList { first, others })
 }
 
-/// Whether the processes that are written after this one rise above it.
+/// Whether the processes that are written after this one rise from it.
 fn rise(first: u64, others: Option<&[u8]>) -> bool
     ensures { result ≡ is_some (rising_after (Some first) (parts_of_rest is_comma others.entry)) }
 {

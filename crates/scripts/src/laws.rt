@@ -15,8 +15,8 @@ use crate::lines::{COMMA, LINE_FEED, SPACE, ZERO};
 use crate::script::{MAX_LINE, MAX_SCRIPT, Script};
 use sleep_core::laws::no_lost_wakeup;
 
-/// Answers are final: a script that is cut anywhere writes, but for its closing line, a front of
-/// what the whole script writes.
+/// Answers are final: a script that is cut anywhere writes, apart from its closing line, a prefix
+/// of what the whole script writes.
 pub fn answers_are_final<S: Script>()
     ensures answers { AnswersAreFinal S.language }
     ensures output { OutputIsFinal S.language }
@@ -35,7 +35,7 @@ pub fn fault_leaves_answers<S: Script>()
     ensures before { LinesBeforeHaveNoFault S.language }
 {}
 
-/// The same of pipe scripts, which have no closing line, and of schedules.
+/// The same for pipe scripts, which have no closing line, and for schedules.
 pub fn pipes_and_schedules()
     ensures pipe_output { PipeOutputIsFinal }
     ensures pipe_fault { FaultLeavesAnswers pipe_language }
@@ -43,8 +43,8 @@ pub fn pipes_and_schedules()
     ensures schedule_fault { FaultLeavesAnswers schedule_language }
 {}
 
-/// No schedule says that a wakeup was lost: one without a fault ends in `lost no`. The core's law
-/// on lists of events gives it.
+/// No schedule says that a wakeup was lost: a schedule without a fault ends in `lost no`. The
+/// core's law on lists of events gives it.
 pub fn no_schedule_says_lost()
     ensures { NoScheduleSaysLost }
 {

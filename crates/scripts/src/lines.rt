@@ -24,15 +24,15 @@ pub const COMMA: u8 = b',';
 /// The digit 0.
 pub const ZERO: u8 = b'0';
 
-/// Where the byte first stands. The crate looks at 32 bytes at once.
+/// The first place of the byte. The crate looks at 32 bytes at once.
 fn place_of(byte: u8, text: &[u8]) -> Option<usize>
     ensures { result ≡ position (λ b. b == byte) text.now }
 {
     memchr(byte, text)
 }
 
-/// What follows a word that a text begins with; nothing where it begins with another. Of a word
-/// that it knows the compiler writes the steps out; it does not those of `strip_prefix`.
+/// What follows a word that a text begins with; nothing where it begins with another word. For a
+/// word that it knows, the compiler writes the steps out, but not the steps of `strip_prefix`.
 #[inline(always)]
 pub fn after_word<'t>(word: &[u8], text: &'t [u8]) -> Option<&'t [u8]>
     ensures { MatchOption result ((rest : List ℕ) → ¬ (text.now ≡ word.now ++ rest))
@@ -50,7 +50,7 @@ pub fn after_word<'t>(word: &[u8], text: &'t [u8]) -> Option<&'t [u8]>
     after_word_from(4, word, text)
 }
 
-/// The same, where so many bytes of the two are the same.
+/// The same, where the first `same` bytes of the two are the same.
 #[inline(always)]
 fn after_word_from<'t>(same: usize, word: &[u8], text: &'t [u8]) -> Option<&'t [u8]>
     requires within { (same ≤ length word.now) × (length word.now ≤ length text.now) }
@@ -98,7 +98,8 @@ pub fn next_word(text: &[u8]) -> (&[u8], Option<&[u8]>)
     next_part(SPACE, text)
 }
 
-/// The part before the first such byte, and what follows that; `None` follows the last part.
+/// The part before the first parting byte, and what follows that byte; `None` follows the last
+/// part.
 pub fn next_part(parting: u8, text: &[u8]) -> (&[u8], Option<&[u8]>)
     ensures part { parts_of (λ b. b == parting) text.now
         ≡ result.0.now ∷ parts_of_rest (λ b. b == parting) result.1 }
@@ -110,7 +111,7 @@ pub fn next_part(parting: u8, text: &[u8]) -> (&[u8], Option<&[u8]>)
     }
 }
 
-/// The number below 2^64 that a word spells, with no zero in front but for the number 0.
+/// The number below 2^64 that a word spells, with no leading zero but for the number 0.
 pub fn number(word: &[u8]) -> Option<u64>
     ensures { result ≡ number_of word.now }
 {
@@ -128,8 +129,8 @@ pub fn bounded_number(word: &[u8], least: u64, most: u64) -> Option<u64>
     number(word).filter(|n| least <= *n && *n <= most)
 }
 
-/// The number that a text begins with, before this byte, and what follows that byte; nothing where
-/// it begins with no such number. One pass over the digits finds their end too.
+/// The number that a text begins with, before the byte `end`, and what follows that byte; nothing
+/// where it begins with no such number. One pass over the digits finds their end too.
 #[inline(always)]
 pub fn number_before(end: u8, text: &[u8]) -> Option<(u64, &[u8])>
     requires { is_ascii_digit end ≡ false }
@@ -158,8 +159,8 @@ pub fn number_before(end: u8, text: &[u8]) -> Option<(u64, &[u8])>
     Some((n, ended(end, text, n, count)?))
 }
 
-/// What follows the byte after all digits that a text begins with, which are so many and spell
-/// this number, where it is this byte.
+/// What follows the byte after all digits that a text begins with, where that byte is `end`. There
+/// are `count` such digits, which spell this number.
 #[inline(always)]
 fn ended(end: u8, text: &[u8], number: u64, count: usize) -> Option<&[u8]>
     requires other { is_ascii_digit end ≡ false }
@@ -215,7 +216,7 @@ pub fn next_number(list: &[u8]) -> Option<(u64, Option<&[u8]>)>
     Some((n, Some(rest)))
 }
 
-/// The byte after so many, and what follows it.
+/// The byte after `count` bytes, and what follows it.
 #[inline(always)]
 pub fn byte_after(count: usize, text: &[u8]) -> (u8, &[u8])
     requires { count < length text.now }
@@ -224,8 +225,8 @@ pub fn byte_after(count: usize, text: &[u8]) -> (u8, &[u8])
     (text[count], &text[count + 1..])
 }
 
-/// Whether the digits that spell a number are a word that does: one at least, with no zero in front
-/// but for the number 0.
+/// Whether the digits that spell a number are a word for it: at least one digit, with no leading
+/// zero but for the number 0.
 #[inline(always)]
 fn spells(text: &[u8], number: u64, count: usize) -> bool
     requires { LeadingDigits text.now number count }
@@ -237,8 +238,8 @@ fn spells(text: &[u8], number: u64, count: usize) -> bool
     }
 }
 
-/// The number that all digits at the front of a text spell, and how many they are, where so many
-/// are passed, which spell this number; nothing where it is 2^64 at least.
+/// The number that all leading digits of a text spell, and how many there are. The first `passed`
+/// of them are passed already, and spell `front`. Nothing where the number is at least 2^64.
 fn all_digits(text: &[u8], front: u64, passed: usize) -> Option<(u64, usize)>
     requires { LeadingDigits text.now front passed }
     ensures { MatchOption result (TooLarge text.now)

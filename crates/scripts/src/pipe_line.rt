@@ -19,7 +19,7 @@ use sync_base::limits::{MAX_PIPE_LIMIT, MAX_WRITERS};
 pub enum PipeOp<'a> {
     /// A writer offers bytes.
     Write { writer: u64, bytes: &'a [u8] },
-    /// At most so many bytes are to be read.
+    /// At most this many bytes are to be read.
     Read { most: u64 },
     /// The direction is hung up.
     Hangup,
@@ -46,7 +46,7 @@ pub fn opening_at(line: &[u8]) -> Option<Opening>
     Some(Opening { mode, limit })
 }
 
-/// The mode that what follows the limit asks for.
+/// The mode that the text after the limit asks for.
 fn mode_of_rest(rest: Option<&[u8]>) -> Option<Mode>
     ensures { result ≡ mode_of (words_of_rest rest.entry) }
 {
@@ -120,8 +120,8 @@ fn read_at<'a, 't>(text: &'t [u8]) -> Option<(PipeOp<'a>, &'t [u8])>
     Some((PipeOp::Read { most }, rest))
 }
 
-/// A write with the words that follow its verb, and what follows the line. No byte is looked for
-/// before the digits are decoded but the line feed: a space is no digit.
+/// A write with the words that follow its verb, and what follows the line. Only the line feed is
+/// looked for before the digits are decoded: a space is no digit.
 fn write_at<'a, 't>(
     text: &'t [u8],
     room: &'a mut Vec<u8>,
@@ -152,7 +152,7 @@ fn write_at<'a, 't>(
 }
 
 /// The bytes of a word in hexadecimal, put into this room, which grows where it has to; nothing
-/// where the word is none.
+/// where the word is not hexadecimal.
 fn bytes_at<'a>(word: &[u8], room: &'a mut Vec<u8>) -> Result<Option<&'a [u8]>, AllocError>
     ensures { IfOk result (λ bytes. MatchOption bytes (bytes_of word.now ≡ None)
         (λ b. bytes_of word.now ≡ Some b.now)) }

@@ -15,9 +15,9 @@ use sync_base::Fault;
 /// Runs a pipe script: reads it whole, and then writes the answers to its lines. p9sync(1) has the
 /// lines with their answers, and `docs/SCRIPTS.md` the rest of the format.
 ///
-/// Device: the reader failed, and then nothing was written; or the writer failed, and then a prefix
-/// of the answers was. Memory: the same. Script: the line that is not in the grammar, and then the
-/// answers of the lines before it were written.
+/// Device: the reader failed, and nothing was written; or the writer failed, after a prefix of the
+/// answers was written. Memory: the same. Script: the line is not in the grammar, and the answers
+/// to the lines before it were written.
 pub fn run_pipe<R: Read, W: Write>(
     alloc: Global,
     reader: &mut R,
@@ -37,9 +37,9 @@ pub fn run_pipe<R: Read, W: Write>(
 /// was lost. p9sync(1) has the lines with their answers, and `docs/SCRIPTS.md` the rest of the
 /// format.
 ///
-/// Device: the reader failed, and then nothing was written; or the writer failed, and then a prefix
-/// of the answers was. Memory: the same. Script: the line that is not in the grammar, and then the
-/// answers of the lines before it were written, and no last line.
+/// Device: the reader failed, and nothing was written; or the writer failed, after a prefix of the
+/// answers was written. Memory: the same. Script: the line is not in the grammar, and the answers
+/// to the lines before it were written, and no last line.
 pub fn run_replay<R: Read, W: Write>(
     alloc: Global,
     reader: &mut R,
@@ -58,8 +58,8 @@ pub fn run_replay<R: Read, W: Write>(
 /// Runs a script of any language: reads it whole, and then writes the answers to its lines. What it
 /// writes is what the script says, up to its first line that is not in the grammar.
 ///
-/// Device: the reader failed, and then nothing was written; or the writer failed, and then a prefix
-/// of the answers was. Memory: the same. Script: the line that is not in the grammar.
+/// Device: the reader failed, and nothing was written; or the writer failed, after a prefix of the
+/// answers was written. Memory: the same. Script: the line is not in the grammar.
 pub fn run_script<S: Script, R: Read, W: Write>(
     alloc: Global,
     reader: &mut R,

@@ -76,7 +76,7 @@ fn answer_event(world: &mut World, event: Event, output: &mut Vec<u8>) -> Result
     push_event_answer(output, world.step(event))
 }
 
-/// The same of a text whose first line is no event: it may be a line `notepg`.
+/// The same for a text whose first line is no event: it may be a line `notepg`.
 #[inline(always)]
 fn answer_first_group<'t>(
     world: &mut World,
@@ -122,8 +122,8 @@ fn post_each(
     Ok(())
 }
 
-/// Posts notes to a process, and writes the answer. Of the step and its answer in words the
-/// compiler leaves here what a note needs, as a function of its own.
+/// Posts notes to a process, and writes the answer. As a function of its own, so that the compiler
+/// keeps here only what a note needs of the step and of its answer in words.
 #[inline(never)]
 fn answer_note(
     world: &mut World,

@@ -23,7 +23,7 @@ pub const MAX_SCRIPT: usize = 16_777_216;
 
 /// A script while it runs. Its language says what each line does to a state.
 pub trait Script: Drop + Sized {
-    /// What the language follows from line to line.
+    /// The state of the language, from line to line.
     ghost State: { Type 0 };
 
     /// The language of these scripts.
@@ -36,7 +36,7 @@ pub trait Script: Drop + Sized {
     fn open(alloc: Global, line: &[u8]) -> Result<Option<Self>, AllocError>
         ensures { IfOk result (Opens stands_for (language.opened_by line.now)) };
 
-    /// Answers the first line of a text, and gives what follows that line; nothing where there is
+    /// Answers the first line of a text, and returns what follows that line; nothing where there is
     /// no whole line, or it is not in the grammar or too long.
     fn answer_first<'t>(
         &mut self,
@@ -54,16 +54,16 @@ pub trait Script: Drop + Sized {
             OnOk result (output.new.items ≡ output.old.items ++ language.closing_line s) };
 }
 
-/// How many bytes of answers are held back before they are written. So few stay in the cache, and
-/// their memory is taken once.
+/// How many bytes of answers are held back before they are written. So few bytes stay in the cache,
+/// and their memory is taken once.
 const PIECE: usize = 65_536;
 
 /// Room for a piece and the longest answer after it, which gives 65,536 bytes in digits. A read of
 /// a stream and the answers to a long line `notepg` may take more, and then the room grows.
 const ROOM: usize = PIECE + 131_077;
 
-/// Writes what the lines of a text say, and gives the number of the line at fault. Where the script
-/// is too long, the text is the front of it.
+/// Writes what the lines of a text say, and returns the number of the line at fault. Where the
+/// script is too long, the text is its prefix.
 pub fn tell<S: Script, W: Write>(
     alloc: Global,
     text: &[u8],
@@ -88,7 +88,7 @@ pub fn tell<S: Script, W: Write>(
     answer_lines(alloc, script, rest, is_too_long, writer)
 }
 
-/// Answers the lines after the first, writes the answers piece by piece, and gives the number of
+/// Answers the lines after the first, writes the answers piece by piece, and returns the number of
 /// the line at fault. As a function of its own the loop has the registers to itself.
 #[inline(never)]
 fn answer_lines<S: Script, W: Write>(

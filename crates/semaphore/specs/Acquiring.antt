@@ -1,5 +1,5 @@
--- What semacquire promises. From semacquire(2); the order of waiters, and that notes that came with
--- a unit are put back, are own. How a call sleeps is the wait of all devices.
+-- What semacquire promises. From semacquire(2). Own: the order of waiters, and that notes that came
+-- with a unit are put back. How a call sleeps is the wait of all devices.
 use Rattle.std.specs.Prelude.{◌≡◌, ℕ, ◌+◌, Bool, true, false, Option, Some, None, Result, Ok, Err}
 use Rattle.kernel_lock.specs.Seats as lock
 use Rattle.sync_base.specs.declared.fault.Fault.{Fault}
@@ -23,8 +23,8 @@ number_of seat = lock.number_of seat.seat
 
 -- ---- the requests of a call that waits
 
--- the first request: the seat has its unit, or stands in the line and waits for the grant above
--- that count, or its grants are worn out
+-- the first request: the seat has its unit, or is in line and waits for the grant after that count,
+-- or its grants are worn out
 abbrev pub Begins : Sema → Point SemaSeat → Reply Unit → Point SemaSeat → Type 0
 Begins sema before (reply.Done unit) after =
     OnlyAsks sema false (Acquire (number_of before.seat)) told.Acquired before after
@@ -61,7 +61,7 @@ units_of (Ok got.Acquired) = 1
 units_of (Ok got.NotNow) = 0
 units_of (Err why) = 0
 
--- a call that waits never answers that it got none now
+-- a call that waits never answers that it got no unit now
 abbrev pub Waits : Sema → Point SemaSeat → Result Semacquired Fault → Point SemaSeat → Type 0
 Waits sema before (Ok got.Acquired) after =
     Waited (acquiring sema) (rendez_at sema before.seat) before (Ok tt) after
@@ -69,19 +69,20 @@ Waits sema before (Ok got.NotNow) after = ⊥
 Waits sema before (Err why) after =
     Waited (acquiring sema) (rendez_at sema before.seat) before (Err why) after
 
--- one that does not wait asks once, and answers what it was told
+-- a call that does not wait asks once, and returns the answer
 abbrev pub AsksNow : Sema → Point SemaSeat → Result Semacquired Fault → Point SemaSeat → Type 0
 AsksNow sema before (Ok got) after =
     OnlyAsks sema false (AcquireNow (number_of before.seat)) (now_reply got) before after
 AsksNow sema before (Err why) after = ⊥
 
--- by whether it is to wait
+-- one or the other, by whether the call is to wait
 abbrev pub Takes :
     Bool → Sema → Point SemaSeat → Result Semacquired Fault → Point SemaSeat → Type 0
 Takes true = Waits
 Takes false = AsksNow
 
--- a semacquire: an answer Acquired is just one unit that was given, and any other is none
+-- a semacquire: the answer Acquired is exactly one unit that was given, and any other answer is
+-- none
 pub record Semacquires (block : Bool) (sema : Sema) (before : Point SemaSeat)
     (answer : Result Semacquired Fault) (after : Point SemaSeat) : Type 0 where
   pub units : units_given after.seat ≡ units_given before.seat + units_of answer

@@ -18,8 +18,8 @@ use Rattle.waiting.specs.Waiting.{Point}
 -- ---- requests
 
 module _ (sema : Sema) (waits : Bool) (call : SemaCall) (told : SemaReply) where
-  -- The seat asked this under its own number and was told so, which stands in one legal history;
-  -- and this says whether it waits now.
+  -- The seat asked this under its own number and got this answer, both in one legal history; and
+  -- `waits` says whether it waits now.
   pub record Asks (before after : SemaSeat) : Type 0 where
     pub served : Serves (record { by = number_of before.seat; request = call; reply = told })
         (view_of before.seat) (view_of after.seat)
@@ -44,7 +44,7 @@ wake_reply (Some grant) = reply.Wake grant.seat grant.grants
 wake_reply None = reply.NoWake
 
 -- What a request of a seat finds: a state that the semaphore can be in, in which the seat is as its
--- own calls say, and of which the reply is the answer.
+-- own calls say, and from which this answer follows.
 pub record IsTold (procs number : ℕ) (waits : Bool) (call : SemaCall) (answer : SemaReply) :
     Type 0 where
   pub state : SemaState
@@ -56,13 +56,13 @@ pub record IsTold (procs number : ℕ) (waits : Bool) (call : SemaCall) (answer 
 
 -- ---- a release in one hold of the lock
 
--- what follows a release that was taken: who is to be woken
+-- what follows a release that was taken: the question which seat is to be woken
 abbrev pub wake_next : SemaReply → Option SemaCall
 wake_next (reply.Value sum) = Some NextWake
 wake_next answer = None
 
 module _ (sema : Sema) where
-  -- the seat, which waits for nothing, asked this of some state and was told what that answers
+  -- the seat, which does not wait, asked this of some state and got the answer of that state
   pub record Finds (call : SemaCall) (told : SemaReply) (before after : SemaSeat) : Type 0 where
     pub asks : Asks sema false call told before after
     pub found : IsTold sema.procs (number_of before.seat) false call told
@@ -72,12 +72,13 @@ module _ (sema : Sema) where
     pub between : SemaSeat
     pub found_first : Finds call first before between
     pub found_second : Finds NextWake second between after
-    -- no other request stands between them
+    -- no other request is between them
     pub at_once : seen_of after.seat ≡
         record { by = number_of between.seat; request = NextWake; reply = second }
         ∷ seen_of between.seat
 
-  -- it asked for a release of so many units and, just where that was taken, who is to be woken
+  -- it asked for a release of this many units and, if and only if the release was taken, which seat
+  -- is to be woken
   abbrev pub AsksRelease :
       ℕ → SemaReply → Option SemaReply → SemaSeat → SemaSeat → Type 0
   AsksRelease count (reply.Value sum) (Some told) before after =

@@ -12,14 +12,14 @@ use Rattle.sleep_core.specs.Limits.{IsProcCount}
 use Rattle.semaphore.specs.Definitions.{sema_definition}
 use Rattle.semaphore.specs.Units.{SemaState, opening}
 
--- the lock stands round a semaphore for so many processes, each with a seat
+-- the lock guards a semaphore for this many processes, each with a seat
 pub record IsSemaLock (lock : Locked SemaState SemaCall SemaReply) (procs : ℕ) : Type 0 where
   pub value : ℕ
   pub fits : value ≤ MAX_VALUE
   pub opening_is : opening_of sema_definition lock ≡ opening value procs 0
   pub limit : limit_of lock ≡ procs
 
--- Own: why there is no semaphore of this value for so many processes. The value is tested first.
+-- Own: why there is no semaphore of this value for this many processes. The value is tested first.
 abbrev pub WhyNotOpened : Unused → ℕ → ℕ → Fault → Type 0
 WhyNotOpened roster value procs fault.BadArg = MAX_VALUE < value
 WhyNotOpened roster value procs fault.NoProc = (value ≤ MAX_VALUE) × (¬ IsProcCount procs)

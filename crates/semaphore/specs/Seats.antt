@@ -19,7 +19,7 @@ use Rattle.semaphore.specs.SemaHistory.{SemaEntry, taken}
 
 -- ---- semaphores
 
--- whether the seat waits, after a call of it that was answered so
+-- whether the seat waits, after a call of it that got this answer
 abbrev pub waits_after : SemaCall → SemaReply → Bool → Bool
 waits_after (Acquire seat) (reply.Wait count) before = true
 waits_after (Collect seat) reply.Granted before = false
@@ -32,8 +32,8 @@ abbrev pub is_waiting : List SemaEntry → Bool
 is_waiting [] = false
 is_waiting (entry ∷ past) = waits_after entry.request entry.reply (is_waiting past)
 
--- the seat is one of the semaphore's and has one number; it has seen a legal history, with its own
--- calls in it once each; and this says whether it waits
+-- the seat is one of the semaphore's and has one number; it has seen a legal history, with each of
+-- its own calls in it once; and `waits` says whether it waits
 pub record IsSeatAt (sema : Sema) (waits : Bool) (seat : SemaSeat) : Type 0 where
   pub opened : IsSemaLock sema.lock sema.procs
   pub seat_is : IsSeatOf sema.lock seat.seat
@@ -42,7 +42,7 @@ pub record IsSeatAt (sema : Sema) (waits : Bool) (seat : SemaSeat) : Type 0 wher
   pub shares_are : shares_of seat.seat ≡ record { number = number_of seat.seat; mine = mine } ∷ []
   pub waits_is : is_waiting mine ≡ waits
 
--- between two calls of a process its seat waits for nothing
+-- between two calls of a process its seat does not wait
 abbrev pub IsSemaSeatOf : Sema → SemaSeat → Type 0
 IsSemaSeatOf sema seat = IsSeatAt sema false seat
 
@@ -73,7 +73,7 @@ units_given seat = taken (own_of (shares_of seat.seat))
 
 -- ---- how they are made
 
--- a new semaphore: it has so many units, its Rendez are the next ones, and its first seat has the
+-- a new semaphore: it has this many units, its Rendez are the next ones, and its first seat has the
 -- number 0 and has made no call
 pub record IsNewSema (roster : Unused) (value procs : ℕ) (sema : Sema) (seat : SemaSeat) :
     Type 0 where

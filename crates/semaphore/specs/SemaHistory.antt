@@ -13,7 +13,7 @@ use Rattle.kernel_lock.specs.Definition.{meaning_of}
 use Rattle.semaphore.specs.Definitions.{sema_definition}
 use Rattle.semaphore.specs.Units.{SemaState}
 
--- one call: the number of the seat that made it, and what it was answered
+-- one call: the number of the seat that made it, and its answer
 abbrev pub SemaEntry : Type 0
 SemaEntry = Operation SemaCall SemaReply
 
@@ -66,7 +66,7 @@ abbrev pub named_by : ℕ → SemaCall → SemaReply → ℕ → ℕ
 named_by seat NextWake (reply.Wake other grants) before = if other == seat then grants else before
 named_by seat call answer before = before
 
--- the count with which it was named last, or where the counts began
+-- the count with which it was named last, or the number where the counts began
 abbrev pub last_named : ℕ → ℕ → List SemaEntry → ℕ
 last_named count seat [] = count
 last_named count seat (entry ∷ past) =

@@ -14,14 +14,14 @@ AlwaysHolds Holds =
     IsLegal sema_meaning (opening value procs count) past →
     Holds value count past (state_after sema_meaning (opening value procs count) past)
 
--- No unit is lost and none is given twice: what nobody has, what callers got and what is granted
--- and not collected are the opening value and what was released.
+-- No unit is lost and none is given twice: the units that nobody has, that callers got, and that
+-- are granted and not collected are together the opening value and the units that were released.
 abbrev pub UnitsAddUp : Type 0
 UnitsAddUp = AlwaysHolds (λ value count past s.
     s.value + taken past + uncollected s.stages ≡ value + released past)
 
--- a seat's count is where it began, and the units that it was granted: those that it collected,
--- and one that it did not yet
+-- a seat's count is the number where it began plus the units that it was granted: those that it
+-- collected, and the one that it did not collect yet
 abbrev pub CountsAreGrants : Type 0
 CountsAreGrants = AlwaysHolds (λ value count past s.
     (seat : ℕ) → seat < length s.stages →
@@ -31,7 +31,7 @@ CountsAreGrants = AlwaysHolds (λ value count past s.
 abbrev pub NobodyWaitsForNothing : Type 0
 NobodyWaitsForNothing = AlwaysHolds (λ value count past s. (s.value ≡ 0) ⊎ (s.waiters ≡ []))
 
--- the value is within its limits, and each seat that waits stands in line, once
+-- the value is within its limits, and each seat that waits is in line once
 abbrev pub StatesAreSound : Type 0
 StatesAreSound = AlwaysHolds (λ value count past s. IsSound s)
 

@@ -13,8 +13,8 @@ abbrev pub timed_units_of : Result Unit Fault → ℕ
 timed_units_of (Ok unit) = 1
 timed_units_of (Err why) = 0
 
--- a tsemacquire until this moment: an answer Ok is just one unit that was given, and any other is
--- none
+-- a tsemacquire until this moment: the answer Ok is exactly one unit that was given, and any other
+-- answer is none
 pub record TimedAcquire (sema : Sema) (timers : Timers) (moment : ℕ)
     (before : TimedPoint SemaSeat) (answer : Result Unit Fault) (after : TimedPoint SemaSeat)
     : Type 0 where

@@ -1,6 +1,6 @@
 -- The units of a semaphore. After semacquire(2): a unit is taken where the value is positive, and
--- otherwise the caller waits; a release adds to the value. Own: a release grants units to those who
--- wait, in the order in which they came; it answers the sum; and the value has an upper limit.
+-- otherwise the caller waits; a release adds to the value. Own: a release grants units to the
+-- waiters, in the order in which they came; it answers the sum; and the value has an upper limit.
 use Rattle.std.specs.Prelude.{◌≡◌, ℕ, ◌+◌, ◌-◌, ◌<◌, ◌≤◌, ◌==◌, nat_lt, Bool, true, false}
 use Rattle.std.specs.Prelude.{if◌then◌else◌, List, [], ◌∷◌, ◌++◌, length, take, drop, fold}
 use Rattle.std.specs.Prelude.{replicate, slice_set, slice_index, slice_index_or, Option, None, Some}
@@ -53,11 +53,11 @@ granted s seat =
       unnamed = with_seat seat s.unnamed;
     }
 
--- Own: as many waiters as there are units are granted one each, those who came first.
+-- Own: as many waiters as there are units are granted one each, first come, first served.
 unfoldable pub passed : SemaState → SemaState
 passed s = fold granted s (take s.value s.waiters)
 
--- the seat has begun no wait that is not over
+-- the last wait of the seat is over, if it began one
 abbrev pub is_idle : Stage → Bool
 is_idle Idle = true
 is_idle Waiting = false
@@ -66,13 +66,14 @@ is_idle Granted = false
 abbrev pub may_acquire : SemaState → ℕ → Bool
 may_acquire s seat = if is_seat s seat then is_idle (stage_of s seat) else false
 
--- a call that waits where there is no unit: Worn where the seat's count of grants is the last
+-- the answer to a call that waits where there is no unit: Worn where the seat's count of grants is
+-- the last
 abbrev pub answer_acquire : SemaState → ℕ → SemaReply
 answer_acquire s seat =
     if nat_lt 0 s.value then reply.Acquired
     else (if grants_of s seat == LAST_GRANT then reply.Worn else reply.Wait (grants_of s seat))
 
--- Own: a release answers the sum, before units pass to those who wait.
+-- Own: a release answers the sum, before units pass to the waiters.
 abbrev pub answer_release : SemaState → ℕ → SemaReply
 answer_release s count =
     if nat_lt MAX_VALUE (s.value + count) then reply.BadArg else reply.Value (s.value + count)
@@ -103,7 +104,7 @@ answer_to s (Collect seat) =
     if is_seat s seat then answer_collect s seat (stage_of s seat) else reply.Busy
 answer_to s (Leave seat) = if is_seat s seat then answer_leave (stage_of s seat) else reply.Busy
 
--- the semaphore after a call that was answered so: all else stays
+-- the semaphore after a call that got this answer: all else stays
 abbrev pub sema_after : SemaState → SemaCall → SemaReply → SemaState
 sema_after s (Acquire seat) reply.Acquired = record s { value = s.value - 1 }
 sema_after s (Acquire seat) (reply.Wait count) =
@@ -141,7 +142,7 @@ pub record IsSound (s : SemaState) : Type 0 where
   pub may_wait : (seat : ℕ) → stands_in s.waiters seat ≡ true → grants_of s seat < LAST_GRANT
   pub fits : (seat : ℕ) → grants_of s seat ≤ LAST_GRANT
 
--- a semaphore may have this value and serve so many processes
+-- a semaphore may have this value and serve this many processes
 pub record IsSemaRange (value procs : ℕ) : Type 0 where
   pub fits : value ≤ MAX_VALUE
   pub count : IsProcCount procs

@@ -3,12 +3,12 @@ use Rattle.std.specs.Prelude.{◌≡◌, ℕ, zero, suc, ◌+◌, ◌<◌, ◌^�
 use Rattle.std.specs.Prelude.{if◌then◌else◌, List, [], ◌∷◌, ◌++◌, length, count_by, slice_index}
 use Rattle.std.specs.Prelude.{slice_index_or, Option, None, Some}
 
--- how many seats there are, and those that stand in line, the first to come first
+-- how many seats there are, and the seats in line, the first to come first
 pub record Queue : Type 0 where
   pub seats : ℕ
   pub order : List ℕ
 
--- the seat stands among these
+-- the seat is in this list
 abbrev pub stands_in : List ℕ → ℕ → Bool
 stands_in [] seat = false
 stands_in (other ∷ rest) seat = (other == seat) || stands_in rest seat
@@ -18,7 +18,7 @@ abbrev pub without : ℕ → List ℕ → List ℕ
 without seat [] = []
 without seat (other ∷ rest) = if other == seat then rest else other ∷ without seat rest
 
--- a seat that stands in line keeps its place, and another comes last
+-- a seat that is in line keeps its place; any other joins as the last
 abbrev pub with_seat : ℕ → List ℕ → List ℕ
 with_seat seat seats = if stands_in seats seat then seats else seats ++ seat ∷ []
 
@@ -26,7 +26,7 @@ abbrev pub first_of : List ℕ → Option ℕ
 first_of [] = None
 first_of (seat ∷ rest) = Some seat
 
--- so many places along the links, after this one
+-- this many places along the links, after this place
 abbrev pub walk : List ℕ → ℕ → ℕ → List ℕ
 walk next from zero = []
 walk next from (suc count) = slice_index next from ∷ walk next (slice_index next from) count
@@ -38,13 +38,13 @@ IsLinked next prev from (seat ∷ rest) end =
     (slice_index next from ≡ seat) ×
     ((slice_index prev seat ≡ from) × IsLinked next prev seat rest end)
 
--- each stands once, and is below the bound
+-- each seat comes once, and is below the bound
 abbrev pub AreSeats : ℕ → List ℕ → Type 0
 AreSeats seats [] = Unit {0}
 AreSeats seats (seat ∷ rest) = (seat < seats) × (stands_in rest seat ≡ false) × AreSeats seats rest
 
--- the links through the seats and the end hold this line, of so many, in which each seat stands of
--- which that is noted
+-- the links through the seats and the end hold this line of `count` seats, and `stands` says of
+-- each seat whether it is in line
 pub record IsRing (next prev : List ℕ) (stands : List Bool) (count : ℕ) (order : List ℕ) : Type 0
   where
     pub few : length stands < 2 ^ 32

@@ -1,5 +1,5 @@
--- No wakeup of a semrelease is lost: whom it was named is released once it has returned, and is
--- named above what it was told when it began to sleep.
+-- No wakeup of a semrelease is lost: each process that it was named is released once it has
+-- returned, and is named with a count above the number with which it began to sleep.
 use Rattle.std.specs.Prelude.{◌≡◌, ◌≤◌, ◌<◌, ℕ, false, List, ◌∷◌, ◌++◌, Some}
 use Rattle.std.specs.List.{AllByRecursion}
 use Rattle.histories.specs.History.{IsLegal, state_after}
@@ -20,8 +20,8 @@ use Rattle.semaphore.specs.Units.{opening, seat_named, stage_of}
 use Rattle.waiting.specs.Waiting.{Point}
 use Rattle.waiting.specs.Wakeups.{HasGoneOn}
 
--- Whoever fell asleep on a seat's Rendez below the number of its grants is no longer posted there,
--- once the semrelease that was named this seat has returned.
+-- A process that fell asleep on a seat's Rendez below the number of its grants is no longer posted
+-- there, once the semrelease that was named this seat has returned.
 abbrev pub ReleasingReleasesTheNamed : Type 0
 ReleasingReleasesTheNamed =
     (sizes : Sizes) (s : _) (shows : ShowsCore sizes s)
@@ -32,8 +32,8 @@ ReleasingReleasesTheNamed =
     (rendez_of_seat sema grant.seat) grant.grants)
     releases.wakes.grants
 
--- And that is enough: a seat that was told to wait with this number, and was granted a unit since,
--- is still to be named, or was named last with a count above it.
+-- And that is enough: a seat that has to wait with this number, and was granted a unit since, is
+-- still to be named, or was named last with a count above it.
 abbrev pub WaitersAreNamedAbove : Type 0
 WaitersAreNamedAbove =
     (value procs : ℕ) → value ≤ MAX_VALUE

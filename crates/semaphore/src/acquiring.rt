@@ -13,7 +13,7 @@ use std::sync::Wait;
 use sync_base::{Fault, NoProbe, Probe};
 use waiting::{Reply, WaitingCall, wait_for};
 
-/// What `semacquire` answers.
+/// The answer of `semacquire`.
 #[derive(Clone, Copy, Debug, PartialEq, Eq)]
 pub enum Semacquired {
     /// It has a unit.
@@ -98,8 +98,8 @@ impl Sema {
     /// Refuses, in this order, as `Worn` where the seat's grants are worn out and it would wait,
     /// `DoubleSleep` where another process sleeps in the seat's Rendez, and `Interrupted` with the
     /// notes that ended the wait, which are no longer pending; a refused call has got no unit.
-    /// Where a unit was granted before the notes came, it has that unit, and the notes are pending
-    /// again. Takes no memory.
+    /// Where a unit was granted before the notes came, the process has that unit, and the notes are
+    /// pending again. Takes no memory.
     pub fn semacquire<R: Wait>(
         &self,
         rt: &R,
@@ -118,8 +118,8 @@ impl Sema {
         self.semacquire_probed(rt, proc, seat, block, &mut NoProbe)
     }
 
-    /// As `semacquire`. The probe is told of point 1 before the semaphore is asked first, 2 before
-    /// and 3 after each sleep, and 4 at the end.
+    /// As `semacquire`. The probe is called at its points: 1 before the semaphore is asked first, 2
+    /// before and 3 after each sleep, and 4 at the end.
     pub fn semacquire_probed<R: Wait, P: Probe>(
         &self,
         rt: &R,

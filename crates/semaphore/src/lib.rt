@@ -1,7 +1,6 @@
-//! Semaphores, after semacquire(2): first the object that a lock stands round, and then the calls
-//! of processes on threads.
-//! Read `limits`, `wait_queue`, `sema_object`, `object`; then `sema`, `sema_asks`, `acquiring`,
-//! `releasing`; then `timing`, where timers of `timer_list` end a wait; and `laws`.
+//! Semaphores, after semacquire(2): first the object under a lock, and then the calls of processes
+//! on threads. Read `limits`, `wait_queue`, `sema_object`, `object`; then `sema`, `sema_asks`,
+//! `acquiring`, `releasing`; then `timing`, where timers of `timer_list` end a wait; and `laws`.
 #![tactic(auto)]
 
 pub mod acquiring;

@@ -1,4 +1,4 @@
-//! A semaphore as an object that a kernel lock may stand round.
+//! A semaphore as an object that a kernel lock may guard.
 ghost use Rattle.semaphore.specs.Definitions.{sema_definition};
 
 use crate::{SemaCall, SemaObject, SemaReply};

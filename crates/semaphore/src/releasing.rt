@@ -1,4 +1,4 @@
-//! How a process adds units, and wakes who was granted one.
+//! How a process adds units, and wakes the processes that were granted one.
 ghost use Rattle.std.specs.Prelude.{◌≡◌, ◌<◌, false, IfSome};
 ghost use Rattle.histories.specs.History.{IsPast};
 ghost use Rattle.kernel_lock.specs.Seats.{number_of, seen_of};
@@ -16,9 +16,9 @@ use std::sync::Wait;
 use sync_base::{Fault, RendezId};
 
 impl Sema {
-    /// Adds so many units, and answers the value after the addition, before units pass to those
-    /// who wait, the first to come first. Each who was granted a unit is woken. After semrelease
-    /// in semacquire(2); what it answers is the library's own.
+    /// Adds `count` units, and returns the value after the addition, before units pass to the
+    /// processes that wait, first come, first served. Each process that was granted a unit is
+    /// woken. After semrelease in semacquire(2); its answer is the library's own.
     ///
     /// Refuses as `BadArg`, and adds nothing, where the value would be above 2,147,483,647.
     /// It waits for the semaphore's lock. Takes no memory.

@@ -15,7 +15,7 @@ use sync_base::{Fault, RendezId};
 #[derive(Drop)]
 pub struct Sema {
     pub(crate) lock: Locked<SemaObject>,
-    /// The Rendez of the seat with the number 0. Those of the other seats follow.
+    /// The Rendez of the seat with the number 0. The Rendez of the other seats follow.
     pub(crate) first: u64,
     pub(crate) procs: u64,
     ghost row: { first + procs < 2 ^ 64 },
@@ -27,7 +27,7 @@ pub struct SemaSeat {
     pub(crate) seat: LockSeat<SemaObject>,
 }
 
-/// What follows a release that was taken: who is to be woken.
+/// What follows a release that was taken: the question which seat is to be woken.
 pub(crate) struct WakeNext;
 
 impl Follows<SemaCall, SemaReply> for WakeNext {
@@ -63,7 +63,7 @@ impl Sema {
     ghost use Rattle.semaphore.specs.Seats.{IsSeatAt, IsSemaSeatOf, IsNewSema, rendez_at};
     ghost use Rattle.semaphore.specs.Seats.{waits_after};
 
-    /// A semaphore of this value for so many processes. It takes a row of as many Rendez.
+    /// A semaphore of this value for this many processes. It takes a row of as many Rendez.
     /// Refuses, in this order, as `BadArg` where the value is above 2,147,483,647, `NoProc` where
     /// the processes are not from 1 to 1,024, `NoRendez` and `Memory`. Doesn't wait.
     pub fn new(

@@ -17,7 +17,7 @@ pub(crate) struct Grant {
     pub(crate) grants: u64,
 }
 
-/// A release that was taken: the sum, and who is to be woken first, if anybody is.
+/// A release that was taken: the sum, and the seat that is to be woken first, if there is one.
 #[derive(Clone, Copy)]
 pub(crate) struct Released {
     pub(crate) sum: u32,
@@ -39,8 +39,8 @@ impl Sema {
         }
     }
 
-    /// Adds so many units where the sum is within the limit, and asks in the same hold of the lock
-    /// who is to be woken.
+    /// Adds `count` units where the sum is within the limit, and asks in the same hold of the lock
+    /// which seat is to be woken.
     pub(crate) fn release<R: Wait>(
         &self,
         rt: &R,

@@ -20,8 +20,8 @@ impl Sema {
     /// library's own.
     ///
     /// Refuses, in this order, as `Worn` and `DoubleSleep` as `semacquire` does, `Interrupted` with
-    /// the notes that ended the wait, and `TimedOut` where a tick did so and no other note came; a
-    /// refused call has got no unit. With any other answer other notes that came are pending
+    /// the notes that ended the wait, and `TimedOut` where a tick ended it and no other note came;
+    /// a refused call has got no unit. With any other answer, other notes that came are pending
     /// again. Where a tick has taken its timer, it waits for that tick's note before it answers, so
     /// that no late expiry reaches a later sleep. Takes no memory.
     pub fn tsemacquire<R: Wait>(
@@ -51,7 +51,8 @@ impl Sema {
         self.tsemacquire_probed(rt, proc, seat, timers, timer, now, ms, &mut NoProbe)
     }
 
-    /// As `tsemacquire`. The probe is told of point 2 before and 3 after each sleep for a unit.
+    /// As `tsemacquire`. The probe is called at its points 2, before each sleep for a unit, and 3,
+    /// after it.
     pub fn tsemacquire_probed<R: Wait, P: Probe>(
         &self,
         rt: &R,

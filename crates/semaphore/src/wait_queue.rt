@@ -1,5 +1,5 @@
-//! A queue of seats in which each stands once, in the order in which they came. A seat joins at the
-//! end, the first is taken, and any seat leaves, all in a fixed number of steps.
+//! A queue that has each seat at most once, in the order in which they came. A seat joins at the
+//! end, the first is taken, and any seat leaves, each in a fixed number of steps.
 ghost use Rattle.std.specs.Prelude.{◌≡◌, ◌<◌, ◌^◌, ◌++◌, ◌∷◌, [], length, true, false, IfOk, IfErr};
 ghost use Rattle.std.specs.Prelude.{IfSome};
 ghost use Rattle.semaphore.specs.WaitQueue.{Queue, stands_in, with_seat, without, first_of};
@@ -9,16 +9,16 @@ use std::alloc::{AllocError, Global};
 use std::marker::Model;
 use sync_base::Fault;
 
-/// A ring of links through the seats that stand in line and the end of the line.
+/// A ring of links through the seats in line and the end of the line.
 #[derive(Debug, Drop)]
 pub(crate) struct WaitQueue {
-    /// What comes after each seat, or the end. After the end comes the first.
+    /// What comes after each seat: a seat, or the end. After the end comes the first seat.
     next: Vec<usize>,
-    /// Who comes before each seat, or the end. Before the end comes the last.
+    /// What comes before each seat: a seat, or the end. Before the end comes the last seat.
     prev: Vec<usize>,
-    /// Whether each seat stands in line.
+    /// Whether each seat is in line.
     stands: Vec<bool>,
-    /// How many stand in line.
+    /// How many seats are in line.
     count: usize,
 }
 
@@ -38,7 +38,7 @@ impl Model for WaitQueue {
 }
 
 impl WaitQueue {
-    /// An empty line for so many seats. It takes all its room.
+    /// An empty line for this many seats. It takes all its room.
     pub(crate) fn new(alloc: Global, seats: usize) -> Result<WaitQueue, Fault>
         requires { seats < 2 ^ 32 }
         ensures ok { IfOk result (λ line. line ≡ record { seats = seats; order = [] }) }
@@ -64,7 +64,7 @@ impl WaitQueue {
         })
     }
 
-    /// Who stands in line, the first to come first.
+    /// The seats in line, the first to come first.
     pub(crate) fn order(&self) -> Result<Vec<u64>, AllocError>
         ensures { IfOk result (λ order. order.items ≡ self.now.order) }
     {
@@ -78,7 +78,7 @@ impl WaitQueue {
         Ok(order)
     }
 
-    /// Whether the seat stands in line.
+    /// Whether the seat is in line.
     pub(crate) fn contains(&self, seat: usize) -> bool
         requires { seat < self.now.seats }
         ensures { result ≡ stands_in self.now.order seat }
@@ -86,7 +86,7 @@ impl WaitQueue {
         self.stands[seat]
     }
 
-    /// The first in line.
+    /// The first seat in line.
     pub(crate) fn first(&self) -> Option<usize>
         ensures first { result ≡ first_of self.now.order }
         ensures seat { IfSome result (λ seat. seat < self.now.seats) }
@@ -98,7 +98,7 @@ impl WaitQueue {
         Some(self.next[end])
     }
 
-    /// A seat that does not stand in line comes last.
+    /// A seat that is not in line joins as the last.
     pub(crate) fn join(&mut self, seat: usize)
         requires within { seat < self.old.seats }
         requires new { stands_in self.old.order seat ≡ false }
@@ -114,7 +114,7 @@ impl WaitQueue {
         self.count += 1;
     }
 
-    /// A seat that stands in line keeps its place, and another comes last.
+    /// A seat that is in line keeps its place; any other joins as the last.
     pub(crate) fn join_once(&mut self, seat: usize)
         requires { seat < self.old.seats }
         ensures { self.new ≡ record self.old { order = with_seat seat self.old.order } }
@@ -124,7 +124,7 @@ impl WaitQueue {
         }
     }
 
-    /// A seat leaves the line, where it stands in it. All others keep their order.
+    /// A seat leaves the line, where it is in it. All others keep their order.
     pub(crate) fn leave(&mut self, seat: usize)
         requires within { seat < self.old.seats }
         requires there { stands_in self.old.order seat ≡ true }

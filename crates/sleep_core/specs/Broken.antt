@@ -1,6 +1,6 @@
 -- Short histories that break a promise, each by one of its rows alone, and some that break none.
--- They are written newest first, as every history, and told oldest first. No run shows one that
--- breaks a promise.
+-- They are written newest first, as every history, and their comments go oldest first. No run shows
+-- a history that breaks a promise.
 use Rattle.std.specs.Prelude.{ℕ, true, false, Some, None, List, [], ◌∷◌}
 use Rattle.sync_base.specs.declared.note.Note.TheVariants.{Interrupt, Alarm}
 use Rattle.sync_base.specs.declared.note.NoteSet.{NoteSet}
@@ -21,7 +21,7 @@ overlooks_the_sleeper = Missed 1 ∷ Raised 1 0 1 ∷ falls_asleep
 abbrev pub test_misses_the_level : List Effect
 test_misses_the_level = Fell 0 ∷ Began 0 0 0 ∷ Missed 1 ∷ Raised 1 0 1 ∷ []
 
--- another process posts itself over the sleeper, and the wakeup takes and marks that one
+-- another process posts itself over the sleeper, and the wakeup takes and marks that process
 abbrev pub posts_over_a_sleeper : List Effect
 posts_over_a_sleeper = Marked 1 2 ∷ Took 1 2 ∷ Raised 1 0 1 ∷ Began 2 0 0 ∷ falls_asleep
 
@@ -43,7 +43,7 @@ misses_who_left = Missed 1 ∷ Raised 1 0 1 ∷ Left 0 None ∷ falls_asleep
 abbrev pub misses_before_the_test : List Effect
 misses_before_the_test = Missed 1 ∷ Raised 1 0 1 ∷ Began 0 0 0 ∷ Left 0 None ∷ falls_asleep
 
--- the level is not above its threshold, or is that of another Rendez,
+-- the level is not above its threshold, or is the level of another Rendez,
 abbrev pub misses_with_a_low_level : List Effect
 misses_with_a_low_level = Missed 1 ∷ Raised 1 0 0 ∷ falls_asleep
 
@@ -63,7 +63,7 @@ takes_before_it_raises = Raised 1 0 1 ∷ Fell 0 ∷ Began 0 0 0 ∷ Missed 1 �
 abbrev pub takes_twice_for_one_raise : List Effect
 takes_twice_for_one_raise = Missed 1 ∷ Missed 1 ∷ Raised 1 0 1 ∷ []
 
--- so it does though it has taken one
+-- it looks again though it has taken a sleeper
 abbrev pub takes_again_for_one_raise : List Effect
 takes_again_for_one_raise = Missed 1 ∷ Took 1 0 ∷ Raised 1 0 1 ∷ falls_asleep
 
@@ -138,7 +138,7 @@ abbrev pub drains_a_note_twice : List Effect
 drains_a_note_twice =
     Drained 0 (only Interrupt) ∷ Drained 0 (only Interrupt) ∷ Noted 0 (only Interrupt) ∷ []
 
--- a note comes, and nothing is drained
+-- a note comes, and the drain takes nothing
 abbrev pub drains_no_note : List Effect
 drains_no_note = Drained 0 no_notes ∷ Noted 0 (only Interrupt) ∷ []
 
@@ -205,7 +205,7 @@ abbrev pub leaves_as_it_was_noted : List Effect
 leaves_as_it_was_noted =
     Left 0 (Some (only Interrupt)) ∷ Withdrew 0 ∷ Noted 0 (only Interrupt) ∷ falls_asleep
 
--- ---- The same of any processes, Rendez, thresholds, levels and notes.
+-- ---- The same for any processes, Rendez, thresholds, levels and notes.
 
 -- a process falls asleep in a Rendez
 abbrev pub falls_asleep_in : ℕ → ℕ → ℕ → List Effect

@@ -10,15 +10,15 @@ use Rattle.sleep_core.specs.Table.{Cell, Word, pid_of, cell_of, reply, stored, p
 use Rattle.sleep_core.specs.Table.Cell.{PostedOf, LevelOf, FlagsOf, NoCell}
 use Rattle.sleep_core.specs.Step.{word_at, is_refusal, answer_to, world_after}
 
--- the word is there
+-- there is such a word
 abbrev pub HasWord : State → Cell → Type 0
 HasWord state (PostedOf rendez) = rendez < length state.posted
 HasWord state (LevelOf rendez) = rendez < length state.levels
 HasWord state (FlagsOf pid) = pid < length state.flags
 HasWord state NoCell = ⊤
 
--- the event may come: its process exists, is in this phase, and the word that the row touches is
--- there and is this one
+-- the event may come: its process exists, is in this phase, and the word that the row touches
+-- exists and is this word
 pub record IsDue (state : State) (event : Event) (stage : Phase) (word : Word) : Type 0 where
   pub exists : (pid_of event).0 < length state.phases
   pub in_phase : phase_of state (pid_of event).0 ≡ stage
@@ -30,7 +30,8 @@ abbrev pub word_left : Word → Option Word → Word
 word_left word None = word
 word_left word (Some new) = new
 
--- the event is answered so, and leaves this word where it touched one and its process in this phase
+-- the event gets this answer, leaves this word where it touched one, and leaves its process in this
+-- phase
 pub record FollowsTable (state : State) (event : Event) (stage : Phase) (told : Answer)
     (word : Word)
     (after : Phase) : Type 0 where
@@ -38,7 +39,7 @@ pub record FollowsTable (state : State) (event : Event) (stage : Phase) (told : 
   pub leaves : word_at (world_after state event) (cell_of event stage) ≡ word
   pub moves : phase_of (world_after state event) (pid_of event).0 ≡ after
 
--- what a refused event leaves in a word, and another
+-- what an event leaves in a word, refused or not
 abbrev pub word_after : Event → Phase → Word → Word
 word_after event stage word =
     if is_refusal (reply event stage word) then word else word_left word (stored event stage word)

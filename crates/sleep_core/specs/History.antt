@@ -1,6 +1,6 @@
--- The history that a run shows: what each event did that was not refused. It is read off the events
--- and their answers alone. It has no words and no phases, so that no flaw of the machine can hide
--- in them.
+-- The history that a run shows: the effect of each event that was not refused. It is read off the
+-- events and their answers alone. It has no words and no phases, so that no flaw of the machine can
+-- hide in them.
 use Rattle.std.specs.Prelude.{◌≡◌, ◌==◌, ◌⊎◌, ℕ, if◌then◌else◌, Option, Some, None, List, [], ◌∷◌}
 use Rattle.std.specs.List.{filter_map}
 use Rattle.sync_base.specs.declared.note.NoteSet.{NoteSet}
@@ -14,7 +14,7 @@ use Rattle.sleep_core.specs.Runs.{Entry}
 
 -- After sleep and wakeup in "Process Sleep and Synchronization on a Shared-Memory Multiprocessor"
 -- (1991): a process announces itself, tests its condition and waits; another makes the condition
--- true, takes whom it finds and readies it. Notes are after notify(2).
+-- true, takes the process that it finds and readies it. Notes are after notify(2).
 pub data Effect : Type 0 where
   -- the process began a sleep in the Rendez, until its level is above this threshold
   Began : (pid rendez threshold : ℕ) → Effect
@@ -71,7 +71,8 @@ begun_wakeup pid (Raised raiser rendez level ∷ past) =
     else begun_wakeup pid past
 begun_wakeup pid (effect ∷ past) = begun_wakeup pid past
 
--- a wakeup of the Rendez with this level has returned: it found nobody, or marked whom it took
+-- a wakeup of the Rendez with this level has returned: it found nobody, or marked the process that
+-- it took
 abbrev pub HasReturned : List Effect → ℕ → ℕ → Type 0
 HasReturned [] rendez level = ⊥
 HasReturned (Missed pid ∷ past) rendez level =

@@ -22,7 +22,7 @@ EventsMakeRuns =
     (procs rendez : ℕ) (events : List Event)
     → IsRunOf procs rendez events (run_of (opening procs rendez) [] events)
 
--- a world keeps its size, and whatever it names is there
+-- a world keeps its size, and whatever it names is in it
 pub record IsSoundIn (procs rendez : ℕ) (state : State) : Type 0 where
   pub sound : IsSound state
   pub procs_stay : length state.phases ≡ procs
@@ -42,22 +42,22 @@ pub record IsKept (history : List Effect) (state : State) : Type 0 where
   pub notes_right : AreNotesRight history
   pub nobody_oversleeps : ¬ (HasLostWakeup state)
 
--- of every run, in a world of any size
+-- for every run, in a world of any size
 abbrev pub NoLostWakeup : Type 0
 NoLostWakeup =
     (procs rendez : ℕ) (past : List Entry)
     → IsRun procs rendez past
     → IsKept (history_of past) (world_of procs rendez past)
 
--- of every list of events, in a world of any size
+-- for every list of events, in a world of any size
 abbrev pub NoLostWakeupInEvents : Type 0
 NoLostWakeupInEvents =
     (procs rendez : ℕ) (events : List Event)
     → let past = run_of (opening procs rendez) [] events in
     IsKept (history_of past) (world_after_all (opening procs rendez) events)
 
--- In every run the word of a Rendez says that a process is posted there exactly where the history
--- says that its sleep on it goes on, whatever its phase.
+-- In every run the word of a Rendez says that a process is posted there if and only if the history
+-- says that its sleep there goes on, whatever its phase.
 abbrev pub PostedAreStillIn : Type 0
 PostedAreStillIn =
     (procs rendez : ℕ) (past : List Entry)
@@ -74,7 +74,7 @@ StillInArePosted =
     → IsStillIn (history_of past) pid at threshold
     → posted_of (world_of procs rendez past) at ≡ posted_as pid
 
--- whoever is asleep with a threshold and posted has fallen asleep with it in the history
+-- a process that is asleep with a threshold and posted has fallen asleep with it in the history
 abbrev pub AsleepHaveFallen : Type 0
 AsleepHaveFallen =
     (procs rendez : ℕ) (past : List Entry)
@@ -85,6 +85,7 @@ AsleepHaveFallen =
     → HasFallen (history_of past) pid at.0 threshold
 
 -- the level is the greatest with which a wakeup of the Rendez has returned, or 0 where none has
+-- returned
 pub record IsGreatestReturned (history : List Effect) (rendez level : ℕ) : Type 0 where
   pub bound : (other : ℕ) → HasReturned history rendez other → other ≤ level
   pub reached : (level ≡ 0) ⊎ HasReturned history rendez level
@@ -113,7 +114,7 @@ ReturnedWakeupReleases =
     → HasReturned (history_of past) at.0 level
     → ReleasesBelow (world_of procs rendez past) at level
 
--- the receipt stands in the raiser's own events
+-- the receipt is in the raiser's own events
 abbrev pub ReturnsByOwnEvents : Type 0
 ReturnsByOwnEvents =
     (procs rendez : ℕ) (past : List Entry)
@@ -122,11 +123,11 @@ ReturnsByOwnEvents =
     → HasReturned (history_of (own pid past)) at level
     → HasReturned (history_of past) at level
 
--- what is not kept of a run shows nothing in its history
+-- events that are not kept of a run show nothing in its history
 abbrev pub HistoryByKeptEvents : Type 0
 HistoryByKeptEvents = (past : List Entry) → history_of (kept past) ≡ history_of past
 
--- so the receipt stands in those of the raiser's own events that are kept
+-- so the receipt is in the kept part of the raiser's own events
 abbrev pub ReturnsByKeptEvents : Type 0
 ReturnsByKeptEvents =
     (procs rendez : ℕ) (past : List Entry)

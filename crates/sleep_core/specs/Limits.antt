@@ -1,4 +1,4 @@
--- The sizes of a world, and why one is refused.
+-- The sizes of a world, and why a size is refused.
 use Rattle.std.specs.Prelude.{◌≤◌, ℕ}
 use Rattle.sync_base.specs.declared.fault.Fault.{Fault}
 use Rattle.sync_base.specs.declared.fault.Fault.TheVariants as fault
@@ -14,8 +14,7 @@ IsRendezCount rendez = (1 ≤ rendez) × (rendez ≤ MAX_RENDEZ)
 abbrev pub IsWorldSize : ℕ → ℕ → Type 0
 IsWorldSize procs rendez = IsProcCount procs × IsRendezCount rendez
 
--- Own: the processes are tested first, then the Rendez. Want of memory comes only to a world in
--- range.
+-- Own: the processes are tested first, then the Rendez. Memory is refused only to a world in range.
 abbrev pub WhyNoWorld : ℕ → ℕ → Fault → Type 0
 WhyNoWorld procs rendez fault.NoProc = ¬ IsProcCount procs
 WhyNoWorld procs rendez fault.NoRendez = IsProcCount procs × (¬ IsRendezCount rendez)

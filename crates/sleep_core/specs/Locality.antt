@@ -7,7 +7,7 @@ use Rattle.sleep_core.specs.Table.{Cell, pid_of, cell_of, returned_by}
 use Rattle.sleep_core.specs.Step.{word_at, answer_to, world_after}
 use Rattle.sleep_core.specs.Runs.{Entry, IsRun, world_of, own, kept, phase_by}
 
--- the two worlds have as many processes and Rendez
+-- the two worlds have equally many processes and Rendez
 pub record HaveOneSize (a b : State) : Type 0 where
   pub phases : length a.phases ≡ length b.phases
   pub flags : length a.flags ≡ length b.flags
@@ -66,7 +66,7 @@ PhaseByOwnEvents =
     → (pid : ℕ)
     → phase_by (own pid past) ≡ phase_of (world_of procs rendez past) pid
 
--- and what those that are kept give
+-- and what its kept events give
 abbrev pub PhaseByKeptEvents : Type 0
 PhaseByKeptEvents =
     (procs rendez : ℕ) (past : List Entry)

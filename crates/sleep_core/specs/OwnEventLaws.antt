@@ -1,10 +1,10 @@
--- What a process can tell by its own events alone.
+-- What a process can know from its own events alone.
 use Rattle.std.specs.Prelude.{ℕ, List}
 use Rattle.sleep_core.specs.Runs.{Entry, IsRun, own, kept}
 use Rattle.sleep_core.specs.History.{history_of}
 use Rattle.sleep_core.specs.Promises.{EachSleepIsCaused}
 
--- the cause for which a sleep ends stands among those of its own events that are kept
+-- the cause for which a sleep ends is in the kept part of its own events
 abbrev pub OwnSleepsEndForACause : Type 0
 OwnSleepsEndForACause =
     (procs rendez : ℕ) (past : List Entry)

@@ -1,5 +1,6 @@
--- What is promised of every history: no wakeup is lost, each takes whom it finds in the Rendez, no
--- mark is stray, and each sleep ends with exactly the notes that were pending, and for a cause.
+-- What is promised of every history: no wakeup is lost, each takes the process that it finds in the
+-- Rendez, no mark is stray, and each sleep ends with exactly the notes that were pending, and for a
+-- cause.
 use Rattle.std.specs.Prelude.{◌≡◌, ◌≢◌, ◌<◌, ◌==◌, ◌⊎◌, ⊤, ℕ, if◌then◌else◌}
 use Rattle.std.specs.Prelude.{Option, Some, None, List, [], ◌∷◌}
 use Rattle.sync_base.specs.declared.note.NoteSet.{NoteSet}
@@ -24,7 +25,8 @@ IsStillIn (Left leaver notes ∷ past) pid rendez threshold =
     (leaver ≢ pid) × IsStillIn past pid rendez threshold
 IsStillIn (effect ∷ past) pid rendez threshold = IsStillIn past pid rendez threshold
 
--- So, and in this sleep its test found the condition false: the level was not above its threshold.
+-- This holds, and in this sleep its test found the condition false: the level was not above its
+-- threshold.
 abbrev pub HasFallen : List Effect → ℕ → ℕ → ℕ → Type 0
 HasFallen [] pid rendez threshold = ⊥
 HasFallen (Fell by ∷ past) pid rendez threshold =
@@ -75,10 +77,9 @@ pub record FindsSleeper (past : List Effect) (pid sleeper : ℕ) : Type 0 where
   pub still_in : IsStillIn past sleeper wakeup.rendez threshold
 
 -- After wakeup in "Process Sleep and Synchronization on a Shared-Memory Multiprocessor" (1991): the
--- condition is true before the sleeper is looked for. A wakeup takes only a process that is in its
--- sleep on that Rendez, which neither a wakeup nor it itself has taken out, and it finds nobody
--- only
--- where there is none.
+-- condition is true before the wakeup looks for the sleeper. A wakeup takes only a process that is
+-- in its sleep on that Rendez and was not yet taken out, by a wakeup or by itself. It finds nobody
+-- only where there is no such process.
 abbrev pub TakesAreRight : List Effect → Type 0
 TakesAreRight [] = ⊤
 TakesAreRight (Missed pid ∷ past) = FindsNobody past pid × TakesAreRight past
@@ -94,15 +95,15 @@ IsHeld (Marked by sleeper ∷ past) raiser pid = (sleeper ≢ pid) × IsHeld pas
 IsHeld (Left by notes ∷ past) raiser pid = (by ≢ pid) × IsHeld past raiser pid
 IsHeld (effect ∷ past) raiser pid = IsHeld past raiser pid
 
--- Own: no mark reaches a process that has left the sleep in which it was taken, and none comes
+-- Own: no mark reaches a process that has left the sleep in which it was taken, and no mark comes
 -- twice.
 abbrev pub NoMarkIsStray : List Effect → Type 0
 NoMarkIsStray [] = ⊤
 NoMarkIsStray (Marked raiser sleeper ∷ past) = IsHeld past raiser sleeper × NoMarkIsStray past
 NoMarkIsStray (effect ∷ past) = NoMarkIsStray past
 
--- After notify(2): notes that came to a process are pending until it is told of them. Own: they are
--- a set, and the end of a sleep takes them all.
+-- After notify(2): notes that came to a process are pending until it gets them. Own: they are a
+-- set, and the end of a sleep takes them all.
 abbrev pub pending : List Effect → ℕ → NoteSet
 pending [] pid = no_notes
 pending (Noted named notes ∷ past) pid =
@@ -111,12 +112,12 @@ pending (Drained by notes ∷ past) pid = if by == pid then no_notes else pendin
 pending (Left by notes ∷ past) pid = if by == pid then no_notes else pending past pid
 pending (effect ∷ past) pid = pending past pid
 
--- a sleep ends well where no notes are pending, and else with just these
+-- a sleep ends well where no notes are pending, and else with just the pending notes
 abbrev pub IsRightEnding : Option NoteSet → NoteSet → Type 0
 IsRightEnding None waiting = waiting ≡ no_notes
 IsRightEnding (Some notes) waiting = (notes ≡ waiting) × (notes ≢ no_notes)
 
--- each process was told of exactly the notes that were pending
+-- each process got exactly the notes that were pending
 abbrev pub AreNotesRight : List Effect → Type 0
 AreNotesRight [] = ⊤
 AreNotesRight (Left pid notes ∷ past) = IsRightEnding notes (pending past pid) × AreNotesRight past

@@ -21,7 +21,7 @@ abbrev pub world_after_all : State → List Event → State
 world_after_all state [] = state
 world_after_all state (event ∷ events) = world_after_all (world_after state event) events
 
--- one step of a run: who made it, which event it was, and what it was answered
+-- one step of a run: its maker, its event, and its answer
 pub record Entry : Type 0 where
   pub maker : ℕ
   pub event : Event
@@ -32,7 +32,7 @@ abbrev pub IsMadeBy : ℕ → Event → Type 0
 IsMadeBy maker (Note pid notes) = ⊤
 IsMadeBy maker event = (pid_of event).0 ≡ maker
 
--- the world after a run. Runs are written newest first
+-- the world after a run; runs are written newest first
 abbrev pub world_of : ℕ → ℕ → List Entry → State
 world_of procs rendez [] = opening procs rendez
 world_of procs rendez (entry ∷ past) = world_after (world_of procs rendez past) entry.event
@@ -65,7 +65,7 @@ abbrev pub own : ℕ → List Entry → List Entry
 own pid past = filter (λ entry. entry.maker == pid) past
 
 -- Whether the step is worth keeping: a check, a look that found nothing and all refusals but one
--- are not. Own: a second sleeper wants to know that it was refused.
+-- are not. Own: a second sleeper needs to know that it was refused.
 abbrev pub is_kept : Answer → Event → Bool
 is_kept answer.Posted (Check pid) = false
 is_kept answer.Released event = false

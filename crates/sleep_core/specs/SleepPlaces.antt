@@ -47,7 +47,7 @@ pub record IsInOnePlace (state : State) (pid : ℕ) : Type 0 where
   pub no_other : (other : Place) → IsAt state pid other → other ≡ place
 
 -- After every run each process whose sleep is not over is in just one place, and no other process
--- is in any.
+-- is in any place.
 abbrev pub SleepersAreInOnePlace : Type 0
 SleepersAreInOnePlace =
     (procs rendez : ℕ) (past : List Entry)
@@ -80,16 +80,16 @@ IsRaised state stage = ⊤
 
 -- how the words agree with the phases
 pub record WordsAgree (state : State) : Type 0 where
-  -- whoever is posted is in a phase of a sleep in that Rendez
+  -- a process that is posted is in a phase of a sleep in that Rendez
   pub posted : (pid rendez : ℕ)
       → posted_of state rendez ≡ posted_as pid
       → MayBePosted rendez (phase_of state pid)
-  -- whoever saw its mark has it
+  -- a process that saw its mark has it
   pub woken : (pid : ℕ) → phase_of state pid ≡ phase.Woken → (flags_of state pid).wake ≡ true
   -- a wakeup has raised its level, and a returned level was raised
   pub raised : (pid : ℕ) → IsRaised state (phase_of state pid)
   pub returned : (rendez : ℕ) → returned_of state rendez ≤ level_of state rendez
-  -- whoever is asleep and still posted has a threshold that no returned level is above
+  -- no returned level is above the threshold of a process that is asleep and still posted
   pub asleep : (pid : ℕ) (rendez : RendezId) (threshold : ℕ)
       → phase_of state pid ≡ phase.Asleep rendez threshold
       → posted_of state rendez.0 ≡ posted_as pid

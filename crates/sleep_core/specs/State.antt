@@ -61,7 +61,7 @@ opening procs rendez =
       returned = replicate rendez 0;
     }
 
--- what a phase names is there
+-- what a phase names is in the world
 abbrev pub IsPhaseIn : ℕ → ℕ → Phase → Type 0
 IsPhaseIn procs rendez phase.Idle = ⊤
 IsPhaseIn procs rendez (phase.Posted at threshold) = at.0 < rendez
@@ -73,12 +73,13 @@ IsPhaseIn procs rendez phase.Out = ⊤
 IsPhaseIn procs rendez (phase.Owing at level) = at.0 < rendez
 IsPhaseIn procs rendez (phase.Holding sleeper at level) = (sleeper.0 < procs) × (at.0 < rendez)
 
--- a world but for the levels with which wakeups have returned: no event and no answer depends on
+-- a world without the levels with which wakeups have returned: no event and no answer depends on
 -- them
 abbrev pub bare : State → State
 bare state = record state { returned = [] }
 
--- the rows have one length for processes and one for Rendez, and whatever they name is there
+-- the rows have one length for processes and one length for Rendez, and whatever they name is in
+-- the world
 pub record IsWhole (state : State) : Type 0 where
   pub flags : length state.flags ≡ length state.phases
   pub levels : length state.levels ≡ length state.posted
@@ -86,7 +87,7 @@ pub record IsWhole (state : State) : Type 0 where
       → IsPhaseIn (length state.phases) (length state.posted) (phase_of state pid)
   pub posted : (rendez : ℕ) → posted_of state rendez ≤ length state.phases
 
--- and so with the levels that have returned
+-- the same holds with the levels that have returned
 pub record IsSound (state : State) : Type 0 where
   pub whole : IsWhole state
   pub returned : length state.returned ≡ length state.posted

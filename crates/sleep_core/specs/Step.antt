@@ -1,5 +1,5 @@
--- One event in a world: its answer and the world after it, by the table. A process that does not
--- exist is tested first, then a phase that the event can't come in, then the refusals of the row.
+-- One event in a world: its answer and the world after it, by the table. Whether the process exists
+-- is tested first, then whether the event can come in its phase, then the refusals of the row.
 use Rattle.std.specs.Prelude.{ℕ, max, Bool, true, false, nat_lt, if◌then◌else◌}
 use Rattle.std.specs.Prelude.{Option, Some, None, length, slice_set}
 use Rattle.sleep_core.specs.declared.event.Event.{Event}
@@ -32,7 +32,7 @@ with_returned state (Some wakeup) =
     let greatest = max (returned_of state wakeup.rendez) wakeup.level in
     record state { returned = slice_set state.returned wakeup.rendez greatest }
 
--- whether the word is there
+-- whether there is such a word
 abbrev pub has_cell : State → Cell → Bool
 has_cell state (PostedOf rendez) = nat_lt rendez (length state.posted)
 has_cell state (LevelOf rendez) = nat_lt rendez (length state.levels)
@@ -80,7 +80,7 @@ answer_to state event =
     then answer_in state (phase_of state (pid_of event).0) event
     else answer.NoProc
 
--- the world after an event that was answered so, and not refused
+-- the world after an event that got this answer and was not refused
 abbrev pub changed_by : State → Phase → Event → Answer → State
 changed_by state stage event told =
     let cell = cell_of event stage in
@@ -88,7 +88,7 @@ changed_by state stage event told =
     let moved = with_phase written (pid_of event).0 (phase_after told event stage) in
     with_returned moved (returned_by told event stage)
 
--- the world after an event that was answered so
+-- the world after an event that got this answer
 abbrev pub world_told : State → Phase → Event → Answer → State
 world_told state stage event told =
     if is_refusal told then state else changed_by state stage event told

@@ -1,5 +1,5 @@
--- The table of events, row by row: which word an event touches in a phase, what it answers, what it
--- leaves in the word, and in which phase the process is then. What no row names is refused.
+-- The table of events, row by row: which word an event touches in a phase, its answer, what it
+-- leaves in the word, and the phase of the process after it. An event that no row names is refused.
 use Rattle.std.specs.Prelude.{ℕ, max, Bool, true, ◌||◌, ◌==◌, nat_lt, if◌then◌else◌}
 use Rattle.std.specs.Prelude.{Option, Some, None}
 use Rattle.sync_base.specs.declared.ids.Pid.{Pid}
@@ -76,7 +76,7 @@ cell_of (Drain pid) phase.Idle = FlagsOf pid.0
 cell_of (Check pid) (phase.Asleep rendez threshold) = PostedOf rendez.0
 cell_of event stage = NoCell
 
--- the end of a sleep: well, or with the notes that stood there
+-- the end of a sleep: well, or with the notes that were pending
 abbrev pub ending_of : NoteSet → Answer
 ending_of notes = if has_notes notes then answer.Interrupted notes else answer.Cleared
 
@@ -126,7 +126,7 @@ stored (Note pid notes) stage word =
 stored (Drain pid) phase.Idle word = Some (Flags no_flags)
 stored event stage word = None
 
--- where the process is afterwards: what it was told, of which event, in which phase
+-- the phase of the process after this answer to this event, which came in this phase
 abbrev pub phase_after : Answer → Event → Phase → Phase
 phase_after answer.Posted (Post pid rendez threshold) phase.Idle = phase.Posted rendez threshold
 phase_after answer.Leaving (Test pid) (phase.Posted rendez threshold) = phase.Leaving rendez
@@ -150,7 +150,8 @@ pub record Wakeup : Type 0 where
   pub rendez : ℕ
   pub level : ℕ
 
--- the wakeup that has returned with this answer: it found nobody, or marked whom it took
+-- the wakeup that has returned with this answer: it found nobody, or marked the process that it
+-- took
 abbrev pub returned_by : Answer → Event → Phase → Option Wakeup
 returned_by answer.Nobody (Take pid) (phase.Owing rendez level) =
     Some (record { rendez = rendez.0; level = level })

@@ -1,4 +1,4 @@
-//! What an event tells its process.
+//! What the table answers to an event.
 ghost use Rattle.std.specs.Prelude.{◌≡◌};
 
 use sync_base::{NoteSet, Pid};

@@ -21,7 +21,7 @@ pub enum Event {
     Look {
         pid: Pid,
     },
-    /// It takes itself out of the Rendez, if no wakeup has.
+    /// It takes itself out of the Rendez, if no wakeup has taken it.
     Withdraw {
         pid: Pid,
     },
@@ -29,7 +29,7 @@ pub enum Event {
     Clear {
         pid: Pid,
     },
-    /// It begins a wakeup: the level of the Rendez becomes at least this one.
+    /// It begins a wakeup: the level of the Rendez becomes at least this level.
     Raise {
         pid: Pid,
         rendez: RendezId,
@@ -52,7 +52,7 @@ pub enum Event {
     Drain {
         pid: Pid,
     },
-    /// It reads, asleep, whether it is still posted.
+    /// Asleep, it reads whether it is still posted.
     Check {
         pid: Pid,
     },

@@ -65,7 +65,7 @@ pub fn phase_by_own_events()
     ensures kept { PhaseByKeptEvents }
 {}
 
-/// What is not kept of a run shows nothing in its history.
+/// Events that are not kept of a run show nothing in its history.
 pub fn history_by_kept_events()
     ensures { HistoryByKeptEvents }
 {}
@@ -80,8 +80,9 @@ pub fn runs_are_sound()
     ensures { RunsAreSound }
 {}
 
-/// The posted word of a Rendez names a process exactly where the history says that its sleep there
-/// goes on, in whatever phase it is; and whoever is asleep and posted has fallen asleep in it.
+/// The posted word of a Rendez names a process if and only if the history says that its sleep there
+/// goes on, in whatever phase it is; and a process that is asleep and posted has fallen asleep in
+/// it.
 pub fn posted_is_still_in()
     ensures word { PostedAreStillIn }
     ensures history { StillInArePosted }
@@ -93,16 +94,16 @@ pub fn returned_is_greatest()
     ensures { ReturnedIsGreatest }
 {}
 
-/// No wakeup is lost: whoever fell asleep has been taken out of the Rendez, or has left, once a
-/// wakeup with a level above its own has returned. No mark reaches a process that has left its
-/// sleep, and each sleep ends with exactly the notes that were pending.
+/// No wakeup is lost: a process that fell asleep has been taken out of the Rendez, or has left,
+/// once a wakeup with a level above its threshold has returned. No mark reaches a process that has
+/// left its sleep, and each sleep ends with exactly the notes that were pending.
 pub fn no_lost_wakeup()
     ensures runs { NoLostWakeup }
     ensures events { NoLostWakeupInEvents }
 {}
 
-/// The receipt of a wakeup proves that whoever is asleep below its level is no longer posted. The
-/// receipt stands in the raiser's own events.
+/// The receipt of a wakeup proves that no process that is asleep below its level is still posted.
+/// The receipt is in the raiser's own events.
 pub fn returned_wakeup_releases()
     ensures releases { ReturnedWakeupReleases }
     ensures own { ReturnsByOwnEvents }
@@ -110,7 +111,7 @@ pub fn returned_wakeup_releases()
 {}
 
 /// A process whose sleep is not over is in just one place: posted in its Rendez, held by the wakeup
-/// that took it, marked, or out by itself. No other process is in any.
+/// that took it, marked, or out by itself. No other process is in any place.
 pub fn sleepers_are_in_one_place()
     ensures sleepers { SleepersAreInOnePlace }
     ensures others { OthersAreInNoPlace }
@@ -127,13 +128,13 @@ pub fn sleep_ends_for_a_cause()
     ensures { SleepsEndForACause }
 {}
 
-/// The cause of a sleep that ends without notes stands among the process's own events.
+/// The cause of a sleep that ends without notes is among the process's own events.
 pub fn own_sleeps_end_for_a_cause()
     ensures { OwnSleepsEndForACause }
 {}
 
-/// What is promised of every history can be broken: each short history here breaks a promise, and
-/// would not if one row of the promise were gone or said less.
+/// A history can break what is promised of every history: each of these short histories breaks a
+/// promise, and would not if one row of the promise were gone or said less.
 pub fn promises_can_be_broken()
     // A wakeup is lost.
     ensures overlooks_the_sleeper { LosesWakeup overlooks_the_sleeper }
@@ -178,8 +179,8 @@ pub fn promises_can_be_broken()
     ensures leaves_for_anothers_mark { ¬ (EachSleepIsCaused leaves_for_anothers_mark) }
 {}
 
-/// The promises forbid no more than they say: each short history here breaks none, and would if one
-/// row of the promise were gone.
+/// The promises forbid no more than they say: each of these short histories breaks none, and would
+/// if one row of the promise were gone.
 pub fn promises_can_be_kept()
     // No wakeup is lost.
     ensures takes_the_sleeper { ¬ (LosesWakeup takes_the_sleeper) }
@@ -208,8 +209,8 @@ pub fn promises_can_be_kept()
     ensures leaves_as_it_was_noted { EachSleepIsCaused leaves_as_it_was_noted }
 {}
 
-/// The promises speak of every process, Rendez, threshold, level and note alike: one that spoke of
-/// some alone, or let a part of the notes be told, would let one of these histories pass.
+/// The promises speak of every process, Rendez, threshold, level and note alike: a promise about
+/// some of them alone, or about a part of the notes, would let one of these histories pass.
 pub fn promises_can_be_broken_by_anybody()
     // A wakeup is lost.
     ensures overlooks { (sleeper raiser rendez threshold level : ℕ) → threshold < level

@@ -1,7 +1,7 @@
 //! The core of sleep and wakeup: a world of words and phases that takes one event at a time, and
-//! the law that no wakeup is lost. It has no threads; those who run on threads make each event by
-//! one atomic step. Read `phase`, `event`, `answer`, `bare_world` with its steps, `world`, and then
-//! `laws`.
+//! the law that no wakeup is lost. It has no threads; a crate that runs on threads makes each event
+//! by one atomic step. Read `phase`, `event`, `answer`, `bare_world` with its steps, `world`, and
+//! then `laws`.
 #![tactic(auto)]
 
 pub mod answer;

@@ -1,5 +1,5 @@
-//! Where a process is in its sleep or in its wakeup, and what it can be told meanwhile. The reader
-//! comes from `lib`.
+//! Where a process is in its sleep or in its wakeup, and what others leave for it meanwhile. The
+//! reader comes from `lib`.
 ghost use Rattle.std.specs.Prelude.{◌≡◌};
 ghost use Rattle.sleep_core.specs.State.{no_flags};
 
@@ -43,7 +43,7 @@ pub enum Phase {
     },
 }
 
-/// What others tell a process: one word, which the process empties at once.
+/// What others leave for a process: one word, which the process empties at once.
 #[derive(Clone, Copy, Debug, PartialEq, Eq)]
 pub struct ProcFlags {
     /// A wakeup took the process out of its Rendez and is done with it.

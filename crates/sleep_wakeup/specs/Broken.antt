@@ -1,5 +1,5 @@
--- Steps of a process that are no sleep, or no wakeup, each for a reason of its own, and some that
--- are one. The laws cite them.
+-- Steps of a process that are no sleep, or no wakeup, each for a reason of its own, and some steps
+-- that are a sleep or a wakeup. The laws cite them.
 use Rattle.std.specs.Prelude.{ℕ, List, [], ◌∷◌}
 use Rattle.rendez_words.specs.Process.{TableId}
 use Rattle.sync_base.specs.declared.ids.Pid.{Pid}
@@ -59,7 +59,7 @@ cleared = step (Clear (process 0)) answer.Cleared
 abbrev pub cleared_alarm : Entry
 cleared_alarm = step (Clear (process 0)) (answer.Interrupted (only Alarm))
 
--- Steps that are no sleep. It is over at once.
+-- Steps that are no sleep. The sleep is over at once.
 abbrev pub answers_at_once : List Entry
 answers_at_once = []
 
@@ -91,7 +91,7 @@ posts_with_another_threshold = cleared ∷ went_out ∷ passed ∷ posted_in 0 1
 abbrev pub leaves_for_no_cause : List Entry
 leaves_for_no_cause = cleared ∷ went_out ∷ fell ∷ posted ∷ []
 
--- Steps that are one: the test passed; a mark came; a wakeup took the process before it could
+-- Steps that are a sleep: the test passed; a mark came; a wakeup took the process before it could
 -- withdraw; an alarm came.
 abbrev pub leaves_as_its_test_passed : List Entry
 leaves_as_its_test_passed = cleared ∷ went_out ∷ passed ∷ posted ∷ []
@@ -152,7 +152,7 @@ raises_elsewhere = missed ∷ raised_in 1 1 ∷ []
 abbrev pub raises_to_another_level : List Entry
 raises_to_another_level = missed ∷ raised_in 0 2 ∷ []
 
--- Steps that are one: nobody was there, or somebody, who was marked.
+-- Steps that are a wakeup: nobody was there, or a process, which was marked.
 abbrev pub finds_nobody : List Entry
 finds_nobody = missed ∷ raised ∷ []
 

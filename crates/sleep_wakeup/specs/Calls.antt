@@ -1,6 +1,7 @@
 -- What each call of a process adds to its steps, after sleep and wakeup in "Process Sleep and
 -- Synchronization on a Shared-Memory Multiprocessor" (1991): a process posts itself, tests its
--- condition and waits; another makes the condition true, takes whom it finds and marks it.
+-- condition and waits; another makes the condition true, takes the process that it finds and marks
+-- it.
 use Rattle.std.specs.Prelude.{◌≡◌, ◌≢◌, ◌⊎◌, ⊤, ℕ, List, [], ◌∷◌, ◌++◌}
 use Rattle.std.specs.List.{AllByRecursion}
 use Rattle.sync_base.specs.declared.fault.Fault.{Fault}
@@ -53,7 +54,7 @@ pub record Sleeps (before : Process) (rendez : RendezId) (threshold : ℕ) (note
   pub cause : notes ≡ no_notes → (tested ≡ answer.Leaving) ⊎ HasWoken leaves.waiting
 
 -- Why a sleep was refused, or which notes ended it. Own: the Rendez is tested first, then the
--- threshold, then whether another process is posted; of these only the last leaves a step.
+-- threshold, then whether another process is posted; only the last of these refusals leaves a step.
 abbrev pub WhyNotSlept : Words → Process → RendezId → ℕ → Process → Fault → Type 0
 WhyNotSlept words before rendez threshold after (fault.Interrupted notes) =
     Sleeps before rendez threshold notes after × (notes ≢ no_notes)

@@ -1,5 +1,5 @@
--- What rfork does, after fork(2). Of its flags only RFPROC and RFNOTEG are a roster's: RFREND is
--- one of tag spaces.
+-- What rfork does, after fork(2). Of its flags a roster takes only RFPROC and RFNOTEG: RFREND is a
+-- flag of tag spaces.
 use Rattle.std.specs.Prelude.{◌≡◌, ◌<◌, ◌⊎◌, ℕ, true, false, Option, Some, None}
 use Rattle.sync_base.specs.declared.fault.Fault.{Fault}
 use Rattle.sync_base.specs.declared.fault.Fault.TheVariants as fault
@@ -13,7 +13,7 @@ pub record AreOfRoster (flags : Flags) : Type 0 where
   pub known : AreKnown flags
   pub no_space : asks_space flags ≡ false
 
--- RFPROC isn't set, and no flag but RFNOTEG
+-- no flag but RFNOTEG is set
 pub record AsksNobody (flags : Flags) : Type 0 where
   pub of_roster : AreOfRoster flags
   pub nobody : asks_child flags ≡ false
@@ -26,7 +26,7 @@ pub record AsksChild (flags : Flags) : Type 0 where
 abbrev pub HasPid : Unused → Type 0
 HasPid unused = unused.pids.next < procs_of unused.words
 
--- no child is asked for, or one is and a pid is left
+-- no child is asked for, or a child is asked for and a pid is left
 abbrev pub MayFork : Unused → Flags → Type 0
 MayFork unused flags = AsksNobody flags ⊎ (AsksChild flags × HasPid unused)
 
@@ -37,7 +37,7 @@ WhyNotForked unused flags fault.NoProc = AsksChild flags × (¬ HasPid unused)
 WhyNotForked unused flags other = ⊥
 
 -- Without RFPROC nobody is made; with it the child has the next pid and has made no step. With
--- RFNOTEG the child is in a group of its own, and where there is no child the caller is.
+-- RFNOTEG the child is in a group of its own or, where there is no child, the caller is.
 abbrev pub Forks : ℕ → Unused → Flags → Option Running → Unused → Type 0
 Forks parent before flags None after =
     AsksNobody flags × (after ≡ regrouped parent (asks_group flags) before)

@@ -1,6 +1,6 @@
--- Note groups, after fork(2): each process is in one group, a child in its parent's. With RFNOTEG
--- a child is the first of a new group, and without RFPROC the caller is. A note to a group comes
--- to each process in it.
+-- Note groups, after fork(2): each process is in one group, a child in its parent's. With RFNOTEG a
+-- child is the first of a new group; without RFPROC the caller is. A note to a group comes to each
+-- process in it.
 use Rattle.std.specs.Prelude.{◌≡◌, ℕ, zero, suc, ◌+◌, ◌<◌, ◌≤◌, ◌==◌, ◌||◌, Bool, false}
 use Rattle.std.specs.Prelude.{if◌then◌else◌, List, [], ◌∷◌, ◌++◌, length, get_or, nat_lt, ⊤}
 use Rattle.sync_base.specs.declared.note.NoteSet.{NoteSet}
@@ -12,7 +12,7 @@ abbrev pub holds : ℕ → List ℕ → Bool
 holds pid [] = false
 holds pid (member ∷ group) = (member == pid) || holds pid group
 
--- the group that holds this pid; where none does it is empty
+-- the group that holds this pid; an empty group where no group holds it
 abbrev pub group_of : ℕ → List (List ℕ) → List ℕ
 group_of pid [] = []
 group_of pid (group ∷ groups) = if holds pid group then group else group_of pid groups
@@ -46,17 +46,18 @@ parts pid (group ∷ groups) = without pid group ∷ parts pid groups
 abbrev pub has_company : ℕ → List (List ℕ) → Bool
 has_company pid groups = nat_lt 1 (length (group_of pid groups))
 
--- out of its group into one of its own, which a process that is alone has
+-- the process leaves its group for a group of its own; a process that is alone has one already
 abbrev pub leaves : ℕ → List (List ℕ) → List (List ℕ)
 leaves pid groups = if has_company pid groups then begins pid (parts pid groups) else groups
 
--- a child of a parent that is in no group, as that of another kernel, begins a group
+-- a child joins its parent's group; where the parent is in no group, as a parent of another kernel,
+-- the child begins a group
 abbrev pub follows : ℕ → ℕ → List (List ℕ) → List (List ℕ)
 follows parent child groups =
     if nat_lt 0 (length (group_of parent groups)) then joins parent child groups
     else begins child groups
 
--- how often the pid stands in a group, and in all of them
+-- how often the pid is in a group, and in all groups
 abbrev pub times_in : ℕ → List ℕ → ℕ
 times_in pid [] = 0
 times_in pid (member ∷ group) = (if member == pid then 1 else 0) + times_in pid group
@@ -74,19 +75,19 @@ abbrev pub EachRises : List (List ℕ) → Type 0
 EachRises [] = ⊤
 EachRises (group ∷ groups) = RisesFrom 0 group × EachRises groups
 
--- Disjoint groups, which together are the pids below this one: each stands in one group, once.
+-- Disjoint groups, which together are the pids below this number: each pid is in one group, once.
 pub record AreGroups (groups : List (List ℕ)) (given : ℕ) : Type 0 where
   pub rise : EachRises groups
   pub once : (pid : ℕ) → times pid groups ≡ (if nat_lt pid given then 1 else 0)
 
--- the process posted the notes to each of these, one after the other
+-- the process posted the notes to each of these pids, one after the other
 abbrev pub notes_each : Process → List ℕ → NoteSet → Process
 notes_each process [] set = process
 notes_each process (pid ∷ group) set = notes_each (notes process (record { 0 = pid }) set) group set
 
 -- ---- of the numbers that the code keeps
 
--- of the pids from this one on, those whose group has this number
+-- the pids, from this pid on, whose group has this number
 abbrev pub members_from : ℕ → ℕ → List ℕ → List ℕ
 members_from pid number [] = []
 members_from pid number (own ∷ numbers) =
@@ -98,7 +99,7 @@ abbrev pub groups_by : ℕ → List ℕ → List (List ℕ)
 groups_by zero numbers = []
 groups_by (suc count) numbers = members_from 0 (suc count) numbers ∷ groups_by count numbers
 
--- Each pid that was given has the number of a group, the others have 0, and no group is empty.
+-- Each pid that was given has the number of a group, the other pids have 0, and no group is empty.
 pub record AreNumbers (numbers : List ℕ) (count given : ℕ) : Type 0 where
   pub some : 1 ≤ given
   pub room : given ≤ length numbers
@@ -108,7 +109,7 @@ pub record AreNumbers (numbers : List ℕ) (count given : ℕ) : Type 0 where
   pub none_empty : (number : ℕ) → 1 ≤ number → number ≤ count
       → 1 ≤ length (members_from 0 number numbers)
 
--- which groups there are, how many pids they hold, and how many they have room for
+-- the groups, how many pids they hold, and how many pids they have room for
 pub record Membership : Type 0 where
   pub groups : List (List ℕ)
   pub given : ℕ

@@ -20,7 +20,7 @@ pub record Counts : Type 0 where
   pub next_pid : ℕ
   pub next_rendez : ℕ
 
--- what a roster has left, the pids from the next one on and the Rendez from this one on, and the
+-- what a roster has left, the pids from the next pid on and the Rendez from this Rendez on, and the
 -- note groups of the pids that it gave
 pub record Unused : Type 0 where
   pub words : Words
@@ -28,7 +28,7 @@ pub record Unused : Type 0 where
   pub rendez : ℕ
   pub groups : List (List ℕ)
 
--- the process of a seat; where the seat is away there is none
+-- the process of a seat, or none where the seat is away
 abbrev pub process_in : Words → Option Process → Process
 process_in words None = record { table = table_of words; pid = 0; trace = [] }
 process_in words (Some process) = process
@@ -38,19 +38,19 @@ abbrev pub IsSeated : Words → Pid → Option Process → Type 0
 IsSeated words pid None = ⊥
 IsSeated words pid (Some process) = IsProcessOf words process × (process.pid ≡ pid.0)
 
--- the words have so many processes and Rendez
+-- the words have this many processes and Rendez
 pub record HasSizes (words : Words) (procs rendez : ℕ) : Type 0 where
   pub procs_are : procs_of words ≡ procs
   pub rendez_are : rendez_of words ≡ rendez
 
--- the pids and Rendez that are left are these words', from these ones on
+-- the pids and Rendez that are left are those of these words, from these numbers on
 pub record AreLeftOf (words : Words) (pids : PidsLeft) (left : Counts) : Type 0 where
   pub pids_are : ArePidsOf words pids
   pub next_is : pids.next ≡ left.next_pid
   pub rendez_in : left.next_rendez ≤ rendez_of words
   pub sizes : HasSizes words left.procs left.rendez
 
--- the groups are those of the pids that were given, with room for all
+-- the groups are those of the pids that were given, with room for all pids
 pub record AreGroupsOf (own : Membership) (left : Counts) : Type 0 where
   pub given_is : own.given ≡ left.next_pid
   pub room_is : own.room ≡ left.procs
@@ -65,13 +65,13 @@ pub record IsRoster (words : Words) (pids : PidsLeft) (own : Membership) (left :
 abbrev pub next_process : Unused → Running
 next_process unused = record { words = unused.words; process = given_from unused.pids }
 
--- the groups with the next process in one of its own, or in that of its parent
+-- the groups with the next process in a group of its own, or in its parent's group
 abbrev pub groups_with_next : ℕ → Bool → Unused → List (List ℕ)
 groups_with_next parent apart unused =
     if apart then begins unused.pids.next unused.groups
     else follows parent unused.pids.next unused.groups
 
--- one pid less is left, of a child of this parent
+-- one pid fewer is left: a child of this parent has it
 abbrev pub one_pid_less : ℕ → Bool → Unused → Unused
 one_pid_less parent apart unused =
     record unused {
@@ -79,7 +79,7 @@ one_pid_less parent apart unused =
       groups = groups_with_next parent apart unused;
     }
 
--- the process has left its group, where one is asked for
+-- the process has left its group, where a new group is asked for
 abbrev pub regrouped : ℕ → Bool → Unused → Unused
 regrouped pid apart unused =
     record unused { groups = if apart then leaves pid unused.groups else unused.groups }
@@ -88,10 +88,10 @@ regrouped pid apart unused =
 abbrev pub HasGroup : Unused → ℕ → Type 0
 HasGroup unused pid = 0 < length (group_of pid unused.groups)
 
--- so many Rendez less are left
+-- this many Rendez fewer are left
 abbrev pub rendez_less : ℕ → Unused → Unused
 rendez_less count unused = record unused { rendez = unused.rendez + count }
 
--- so many Rendez are left
+-- at least this many Rendez are left
 abbrev pub HasRendez : Unused → ℕ → Type 0
 HasRendez unused count = unused.rendez + count ≤ rendez_of unused.words

@@ -3,12 +3,12 @@ use Rattle.std.specs.Prelude.{◌≡◌, ◌<◌, ℕ, List, length, slice_index
 use Rattle.sleep_wakeup.specs.declared.status.ProcStatus.{ProcStatus}
 use Rattle.sleep_wakeup.specs.declared.status.RendezStatus.{RendezStatus}
 
--- each status is that of the process with its place as number
+-- each status is of the process whose number is its place
 abbrev pub AreOfProcs : List ProcStatus → Type 0
 AreOfProcs all = (n : ℕ) (room : ProcStatus) → n < length all →
     (slice_index_or all n room).pid.0 ≡ n
 
--- each status is that of the Rendez with its place as number
+-- each status is of the Rendez whose number is its place
 abbrev pub AreOfRendez : List RendezStatus → Type 0
 AreOfRendez all = (n : ℕ) (room : RendezStatus) → n < length all →
     (slice_index_or all n room).rendez.0 ≡ n

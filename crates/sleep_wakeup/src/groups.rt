@@ -1,4 +1,4 @@
-//! The note groups of a kernel: which process is in which.
+//! The note groups of a kernel: which process is in which group.
 ghost use Rattle.std.specs.Prelude.{◌≡◌, ◌≤◌, length};
 ghost use Rattle.rendez_words.specs.Words.{procs_of};
 ghost use Rattle.sleep_wakeup.specs.Groups.{members_from, notes_each};

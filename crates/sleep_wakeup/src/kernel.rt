@@ -57,7 +57,7 @@ impl Kernel {
     ghost use Rattle.rendez_words.specs.Words.{procs_of, rendez_of};
     ghost use Rattle.sleep_wakeup.specs.Starts.{IsStartOf, IsFirst, HasAllLeft};
 
-    /// A kernel with so many processes and Rendez. Nobody sleeps, and no level was raised.
+    /// A kernel with this many processes and Rendez. Nobody sleeps, and no level was raised.
     /// Refuses, in this order, as `NoProc`, `NoRendez` and `Memory`. Doesn't wait.
     pub fn new(alloc: Global, procs: u64, rendez: u64) -> Result<Opened, Fault>
         // Refused first.

@@ -78,7 +78,7 @@ pub fn sleeps_can_be_kept()
         → Sleeps (after table []) (rendez 0) 0 (only Alarm) (after table leaves_with_an_alarm) }
 {}
 
-/// Steps that are no wakeup, or are another than the receipt says.
+/// Steps that are no wakeup, or are a wakeup other than the receipt says.
 pub fn wakeups_can_be_broken()
     // The order of the steps.
     ensures takes_before_it_raises { (table : TableId)
@@ -107,8 +107,8 @@ pub fn wakeups_can_be_broken()
         → ¬ (Wakes (after table []) (rendez 0) 1 (after table finds_nobody) (done_at 1 1)) }
 {}
 
-/// Refusals for which there is no reason, and ones after which there is a step more or that are of
-/// another call.
+/// Refusals with no reason, and refusals after which there is one step more or the step of another
+/// call.
 pub fn refusals_can_be_broken()
     ensures sleep_is_worn { (words : Words) (table : TableId)
         → ¬ (WhyNotSlept words (after table []) (rendez 0) 0 (after table []) Worn) }
@@ -139,8 +139,8 @@ pub fn wakeups_can_be_kept()
         → Wakes (after table []) (rendez 0) 1 (after table marks_the_sleeper) done }
 {}
 
-/// No pid and no Rendez is given twice, and none is lost. A process is in the group that the flags
-/// say, be it the child or the caller.
+/// No pid and no Rendez is given twice, and none is lost. The child, or the caller where there is
+/// no child, is in the group that the flags say.
 pub fn forks_can_be_broken()
     ensures gives_a_pid_twice { (unused : Unused) (flags : Flags) (parent : ℕ)
         → ¬ (Forks parent unused flags (Some (next_process unused)) unused) }
@@ -166,8 +166,9 @@ pub fn forks_can_be_broken()
         → rendez_less count unused ≢ rendez_less (count + 1) unused }
 {}
 
-/// Process 1 is a child in its parent's group, 2 is the first of another, and 3 is its child; then
-/// a child of 1 joins, or 1 or 3 leaves its group. 0, left alone, stays.
+/// Process 1 is a child in its parent's group, 2 is the first of another group, and 3 is its child.
+/// Then a child of 1 joins, or 1 or 3 leaves its group. Process 0, which is left alone, keeps its
+/// group.
 pub fn groups_by_example()
     ensures shared { follows 0 1 first_group ≡ (0 ∷ 1 ∷ []) ∷ [] }
     ensures apart { begins 2 ((0 ∷ 1 ∷ []) ∷ []) ≡ (2 ∷ []) ∷ (0 ∷ 1 ∷ []) ∷ [] }
@@ -183,8 +184,8 @@ pub fn groups_by_example()
     ensures not_found { group_of 4 four_in_two ≡ [] }
 {}
 
-/// Lists of pids that are no groups: a pid stands twice, in one or in two; one is missing; one was
-/// not given; a group falls, the first one or a later one.
+/// Lists of pids that are no groups: a pid is there twice, in one group or in two; a pid is
+/// missing; a pid was not given; the pids of a group fall, the first group's or a later one's.
 pub fn groups_can_be_broken()
     ensures stands_twice { ¬ (AreGroups ((0 ∷ 0 ∷ []) ∷ []) 1) }
     ensures stands_in_two { ¬ (AreGroups ((0 ∷ 1 ∷ []) ∷ (1 ∷ []) ∷ []) 2) }
@@ -194,9 +195,9 @@ pub fn groups_can_be_broken()
     ensures falls_later { ¬ (AreGroups ((0 ∷ []) ∷ (2 ∷ 1 ∷ []) ∷ []) 3) }
 {}
 
-/// A note to the group of pid 1 is two notes, to pid 0 and then to pid 1; one of them, or one
-/// twice, or both in the other order, or notes to others are no note to that group. Pid 4 is in
-/// none.
+/// A note to the group of pid 1 is two notes, to pid 0 and then to pid 1. One of the two alone, one
+/// twice, both in the other order, or notes to others are no note to that group. Pid 4 is in no
+/// group.
 pub fn group_notes_can_be_broken()
     ensures leaves_out_a_member { (table : TableId) → notes_each (after table [])
         (group_of 1 four_in_two) (only Alarm) ≢ after table (noted 0 ∷ []) }

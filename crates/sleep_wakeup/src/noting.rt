@@ -9,9 +9,9 @@ impl<'k> Proc<'k> {
     ghost use Rattle.rendez_words.specs.Steps.{notes, drains};
     ghost use Rattle.rendez_words.specs.Words.{procs_of};
 
-    /// Posts notes to a process, which end its sleep or are pending until its next one. It may be
-    /// a process that `rfork` has not made yet. After postnote(2).
-    /// Refuses as `NoProc`. Takes no memory and doesn't wait.
+    /// Posts notes to a process: they end its sleep, or are pending until its next one. `rfork`
+    /// need not have made the process yet. After postnote(2). Refuses as `NoProc`. Takes no memory
+    /// and doesn't wait.
     pub fn postnote(&mut self, pid: Pid, set: NoteSet) -> Result<(), Fault>
         // Refused first, and then nothing changes.
         ensures allowed { OnOk result (pid.0 < procs_of self.old.words) }
@@ -44,7 +44,7 @@ impl<'k> Proc<'k> {
         set
     }
 
-    /// Puts notes back that were taken: they are pending again. Takes no memory and doesn't wait.
+    /// Puts back notes that were taken: they are pending again. Takes no memory and doesn't wait.
     pub fn put_back(&mut self, set: NoteSet)
         ensures noted { self.new.process ≡ notes self.old.process (pid_in self.old.process) set }
         ensures words { self.new.words ≡ self.old.words }

@@ -56,8 +56,8 @@ impl<'k> Proc<'k> {
         self.words.proc_count()
     }
 
-    /// How many Rendez its kernel has: their numbers are those below. Takes no memory and doesn't
-    /// wait.
+    /// How many Rendez its kernel has: each is named by a number below that. Takes no memory and
+    /// doesn't wait.
     pub fn rendez_count(&self) -> u64
         ensures { result ≡ rendez_of self.now.words }
     {
@@ -65,7 +65,7 @@ impl<'k> Proc<'k> {
     }
 
     /// Its steps are those of a process in a run of the core, so the laws of the core hold of them.
-    /// It is there for the specification, and does nothing.
+    /// This function is there for the specification, and does nothing.
     pub fn is_in_a_run(&self)
         ensures { IsProcessOf self.now.words self.now.process }
     {

@@ -78,10 +78,9 @@ impl<'k> Roster<'k> {
     }
 
     /// After fork(2): makes a child with the next pid where RFPROC is set, else nobody. A child is
-    /// in its parent's note group. With RFNOTEG it is the first of a new group; with RFNOTEG alone
-    /// the caller is.
-    /// Refuses, in this order, as `BadFlags` for any other flag, and as `NoProc` where no pid is
-    /// left. Takes no memory and doesn't wait.
+    /// in its parent's note group. With RFNOTEG the child is the first of a new group; with RFNOTEG
+    /// alone the caller is. Refuses, in this order, as `BadFlags` for any other flag, and as
+    /// `NoProc` where no pid is left. Takes no memory and doesn't wait.
     pub fn rfork(&mut self, parent: &mut Proc<'k>, flags: Flags) -> Result<Option<Proc<'k>>, Fault>
         // Refused first, and then no pid is used up.
         ensures allowed { OnOk result (MayFork self.old flags) }
@@ -110,9 +109,9 @@ impl<'k> Roster<'k> {
         Ok(None)
     }
 
-    /// The child that `rfork` makes with RFPROC. It is in its parent's note group, or `apart`, as
-    /// with RFNOTEG too, in a new one.
-    /// Refuses as `NoProc` where no pid is left. Takes no memory and doesn't wait.
+    /// The child that `rfork` makes with RFPROC. It is in its parent's note group or, where `apart`
+    /// is set, as with RFNOTEG too, in a new group. Refuses as `NoProc` where no pid is left. Takes
+    /// no memory and doesn't wait.
     pub fn make_child(&mut self, parent: &Proc<'k>, apart: bool) -> Result<Proc<'k>, Fault>
         // Refused first, and then no pid is used up.
         ensures allowed { OnOk result (HasPid self.old) }
@@ -135,7 +134,7 @@ impl<'k> Roster<'k> {
         Ok(Proc::new(self.words, seat, pid))
     }
 
-    /// The caller leaves its note group, and is the first of a new one: what `rfork` does with
+    /// Takes the caller out of its note group, as the first of a new group: what `rfork` does with
     /// RFNOTEG alone. Takes no memory and doesn't wait.
     pub fn leave_group(&mut self, caller: &Proc<'k>)
         ensures { self.new ≡ regrouped caller.now.process.pid true self.old }
@@ -143,8 +142,8 @@ impl<'k> Roster<'k> {
         self.groups.leave(caller.pid());
     }
 
-    /// Posts notes to each process of the note group that holds this one, the caller too where it
-    /// is in it, pids rising, and says how many they are. After postnote(2).
+    /// Posts notes to each process of the note group of `pid`, pids rising, also to the caller
+    /// where it is in the group, and returns how many processes they are. After postnote(2).
     /// Refuses as `NoProc` a pid that was not given, and a caller of another kernel that has fewer
     /// processes. Takes no memory and doesn't wait.
     pub fn postnote_group(
@@ -172,15 +171,15 @@ impl<'k> Roster<'k> {
         Ok(self.groups.post(poster, pid, set))
     }
 
-    /// Each process that was made is in one note group, and stands there once.
+    /// Each process that was made is in one note group, once.
     pub fn are_groups(&self)
         ensures { AreGroups self.now.groups self.now.pids.next }
     {
         self.groups.are_groups();
     }
 
-    /// The next Rendez. Refuses as `NoRendez` where none is left.
-    /// Takes no memory and doesn't wait.
+    /// The next Rendez. Refuses as `NoRendez` where no Rendez is left. Takes no memory and doesn't
+    /// wait.
     pub fn rendez(&mut self) -> Result<RendezId, Fault>
         // Refused first, and then nothing changes.
         ensures allowed { OnOk result (HasRendez self.old 1) }
@@ -194,8 +193,8 @@ impl<'k> Roster<'k> {
         self.row(1)
     }
 
-    /// A row of so many Rendez, by the first of them. Refuses as `NoRendez` where fewer are left or
-    /// the count is 0. Takes no memory and doesn't wait.
+    /// The first of `count` Rendez in a row. Refuses as `NoRendez` where fewer are left or the
+    /// count is 0. Takes no memory and doesn't wait.
     pub fn row(&mut self, count: u64) -> Result<RendezId, Fault>
         // Refused first, and then nothing changes.
         ensures allowed { OnOk result (HasRendez self.old count) }
@@ -217,8 +216,8 @@ impl<'k> Roster<'k> {
         Ok(RendezId(first))
     }
 
-    /// How many Rendez its kernel has: their numbers are those below. Takes no memory and doesn't
-    /// wait.
+    /// How many Rendez its kernel has: each is named by a number below that. Takes no memory and
+    /// doesn't wait.
     pub fn rendez_count(&self) -> u64
         ensures { result ≡ rendez_of self.now.words }
     {

@@ -13,8 +13,8 @@ use sync_base::{Fault, NoProbe, Probe, RendezId};
 
 impl<'k> Proc<'k> {
     /// Sleeps until the level of the Rendez is above the threshold, a wakeup takes the process, or
-    /// notes come. It waits. Where notes are pending they end it even if the condition holds; where
-    /// it answers well the condition held or a wakeup came, so a caller tests again.
+    /// notes come. It waits. Pending notes end it even if the condition holds. Where it ends well,
+    /// the condition held or a wakeup came, so a caller tests again.
     ///
     /// Refuses, in this order, as `NoRendez`, `BadLevel` where no level is above the threshold, and
     /// `DoubleSleep` where another process sleeps there; `Interrupted` has the notes that ended it,
@@ -29,9 +29,9 @@ impl<'k> Proc<'k> {
         self.sleep_probed(rt, rendez, threshold, &mut NoProbe)
     }
 
-    /// `sleep`, with a probe that is told 1 before the process posts itself, 2 before it tests, 3
-    /// before it looks, for a mark or notes or for a mark alone, 4 before it withdraws, 5 before it
-    /// clears its flags, and 6 after that.
+    /// `sleep`, with a probe that is called at its points 1, before the process posts itself, 2,
+    /// before it tests, 3, before it looks, for a mark or notes or for a mark alone, 4, before it
+    /// withdraws, 5, before it clears its flags, and 6, after that.
     pub fn sleep_probed<R: Wait, P: Probe>(
         &mut self,
         rt: &R,

@@ -8,7 +8,7 @@ use crate::kernel::Kernel;
 use std::fmt;
 use sync_base::{Note, NoteSet, Pid, RendezId};
 
-/// What a look sees of a process, as the file status of proc(3) tells it.
+/// What a look sees of a process, as in the file status of proc(3).
 #[derive(Clone, Copy, Debug, PartialEq, Eq)]
 pub struct ProcStatus {
     pub pid: Pid,
@@ -53,7 +53,7 @@ impl Default for RendezStatus {
 }
 
 /// What a look saw: as many processes and Rendez as there was room for, from 0 on, and how many
-/// there are. Printed it is a table like that of ps(1).
+/// there are. It is printed as a table like that of ps(1).
 #[derive(Clone, Copy, Debug)]
 pub struct Look<'r> {
     pub procs: &'r [ProcStatus],
@@ -65,13 +65,13 @@ pub struct Look<'r> {
 }
 
 impl Kernel {
-    /// Who waits where. Any thread may look, also one that has no process, while others run. Where
-    /// there is too little room for all, what there is is filled, from 0 on. Takes no memory and
-    /// doesn't wait.
+    /// Who waits where. Any thread may look while others run, also a thread with no process. Where
+    /// there is too little room for all, the room that there is is filled, from 0 on. Takes no
+    /// memory and doesn't wait.
     ///
-    /// Each word is loaded for itself, one after another, so what a look sees is no single moment:
-    /// a process that runs may have gone on to another Rendez meanwhile. A process that is stuck
-    /// stays as it is, and so it is seen as it is. A posted process is about to wait, waits, or is
+    /// Each word is loaded by itself, one after another, so what a look sees is no single moment: a
+    /// process that runs may have gone on to another Rendez meanwhile. A process that hangs stays
+    /// as it is, so the look sees it as it is. A posted process is about to wait, waits, or is
     /// about to leave.
     pub fn look<'r>(&self, procs: &'r mut [ProcStatus], rendez: &'r mut [RendezStatus]) -> Look<'r>
         // As many as there are, or as there is room for, each at the place of its number.

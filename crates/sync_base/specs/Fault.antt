@@ -1,4 +1,4 @@
--- The numbers of the faults. Own: Plan 9 tells faults by their texts alone.
+-- The numbers of the faults. Own: in Plan 9 a fault is known by its text alone.
 use Rattle.std.specs.Prelude.{ℕ}
 use Rattle.sync_base.specs.declared.fault.Fault.{Fault}
 use Rattle.sync_base.specs.declared.fault.Fault.TheVariants.{Memory, Interrupted, Hungup, TooBig}

@@ -50,7 +50,7 @@ stream_opening limit = opening_in Stream limit
 abbrev pub begun_of : PipeState → ℕ
 begun_of s = if nat_lt 0 s.offset then s.read_whole + 1 else s.read_whole
 
--- how many writes stand that no read has begun
+-- how many writes no read has begun
 abbrev pub waiting_of : PipeState → ℕ
 waiting_of s = length s.accepted - begun_of s
 
@@ -78,16 +78,16 @@ next_number first s = first + length s.accepted + 1
 abbrev pub begun_number : ℕ → PipeState → ℕ
 begun_number first s = first + begun_of s
 
--- Where a write may be answered so. After pipe(2), by which a write to a hung up pipe fails; the
--- limit is the library's own.
+-- When a write may get this answer. After pipe(2): a write to a hung up pipe fails. The limit is
+-- the library's own.
 abbrev pub MayAnswerWrite : PipeState → WriteAnswer → Type 0
 MayAnswerWrite s Hungup = s.hung ≡ true
 MayAnswerWrite s Full = waiting_of s ≡ s.limit
 MayAnswerWrite s Taken = (s.hung ≡ false) × (waiting_of s < s.limit)
 
--- Where a read of at most so many bytes of one write may be answered so. After pipe(3): it never
--- joins two writes, and an empty write is read as an empty piece. So is a read in message mode, and
--- the take of a queue in either.
+-- When a read of at most this many bytes of one write may get this answer. After pipe(3): it never
+-- joins two writes, and an empty write is read as an empty piece. A read in message mode is such a
+-- read, and so is the take of a queue in either mode.
 abbrev pub MayAnswerRead : ℕ → PipeState → ReadAnswer → Type 0
 MayAnswerRead most s (Got piece) =
     (write : Write)
@@ -96,8 +96,8 @@ MayAnswerRead most s (Got piece) =
 MayAnswerRead most s End = (s.hung ≡ true) × (next_write s ≡ None)
 MayAnswerRead most s Empty = next_write s ≡ None
 
--- Own: the same of a read in stream mode. It gives the next bytes, of however many writes, and an
--- empty write has none.
+-- Own: the same for a read in stream mode. It gives the next bytes, of however many writes; an
+-- empty write has no bytes.
 abbrev pub MayAnswerStreamRead : ℕ → PipeState → ReadAnswer → Type 0
 MayAnswerStreamRead most s (Got bytes) =
     (bytes ≡ take most (unread_bytes s)) × (bytes ≢ [])
@@ -108,19 +108,20 @@ MayAnswerStreamRead most s Empty = unread_bytes s ≡ []
 abbrev pub write_answer : PipeState → WriteAnswer
 write_answer s = if s.hung then Hungup else if waiting_of s == s.limit then Full else Taken
 
--- What a write of these bytes comes to. Own: one above the atomic size is refused first, and then
--- the direction is not looked at.
+-- The result of a write of these bytes. Own: a write above the atomic size is refused first, and
+-- then the direction is not looked at.
 abbrev pub write_result : PipeState → List ℕ → Result WriteAnswer Fault
 write_result s bytes =
     if nat_lt ATOMIC_SIZE (length bytes) then Err TooBig else Ok (write_answer s)
 
--- a write that is answered so: one that is taken stands after the others, and nothing else changes
+-- the state after a write with this answer: a write that is taken comes after the others, and
+-- nothing else changes
 abbrev pub after_write : PipeState → Write → WriteAnswer → PipeState
 after_write s write Taken = record s { accepted = s.accepted ++ write ∷ [] }
 after_write s write Full = s
 after_write s write Hungup = s
 
--- a read that found no write
+-- the answer to a read that found no write
 abbrev pub nothing_read : Bool → ReadAnswer
 nothing_read true = End
 nothing_read false = Empty
@@ -136,7 +137,7 @@ message_answer most s =
     (option_map (λ write. Got (piece_of most s write)) (next_write s))
     (nothing_read s.hung)
 
--- a read that met these bytes
+-- the answer to a read that met these bytes
 abbrev pub bytes_read : Bool → List ℕ → ReadAnswer
 bytes_read hung [] = nothing_read hung
 bytes_read hung (byte ∷ bytes) = Got (byte ∷ bytes)
@@ -150,12 +151,12 @@ abbrev pub by_mode : {A : Type 0} → Mode → A → A → A
 by_mode Message of_messages of_stream = of_messages
 by_mode Stream of_messages of_stream = of_stream
 
--- what a read of at most so many bytes is answered
+-- the answer to a read of at most this many bytes
 abbrev pub read_answer : ℕ → PipeState → ReadAnswer
 read_answer most s = by_mode s.mode (message_answer most s) (stream_answer most s)
 
--- What a read of at most so many bytes comes to. Own: a read of none is refused first, and then the
--- direction is not looked at.
+-- The result of a read of at most this many bytes. Own: a read of no bytes is refused first, and
+-- then the direction is not looked at.
 abbrev pub read_result : ℕ → PipeState → Result ReadAnswer Fault
 read_result most s = if most == 0 then Err BadCount else Ok (read_answer most s)
 
@@ -170,7 +171,7 @@ after_piece most s write =
 abbrev pub after_message : ℕ → PipeState → PipeState
 after_message most s = unwrap_or (option_map (after_piece most s) (next_write s)) s
 
--- How far a read that goes on comes.
+-- How far a read comes that goes on from write to write.
 pub record Reach : Type 0 where
   pub whole : ℕ  -- how many writes more are read whole
   pub offset : ℕ  -- how many bytes of the one after them are read
@@ -179,13 +180,14 @@ pub record Reach : Type 0 where
 abbrev pub stops_at : ℕ → Reach
 stops_at offset = record { whole = 0; offset = offset }
 
--- a write more is read whole
+-- one more write is read whole
 abbrev pub and_one : Reach → Reach
 and_one reach = record { whole = reach.whole + 1; offset = reach.offset }
 
--- Own. A read of at most so many bytes that goes on from write to write, the first of which is read
--- up to this offset. It stops where nothing is there, where its buffer is full, and in a write that
--- has more than it takes; a write with no more is read whole, so an empty one is passed.
+-- Own. How far a read of at most this many bytes comes in these writes, where the first is read up
+-- to this offset and it goes on from write to write. It stops where no write is left, where its
+-- buffer is full, and in a write that has more than it takes. A write with no more is read whole,
+-- so an empty write is passed.
 abbrev pub reach_of : ℕ → ℕ → List Write → Reach
 reach_of most offset [] = stops_at offset
 reach_of most offset (write ∷ writes) =
@@ -193,7 +195,7 @@ reach_of most offset (write ∷ writes) =
     else if nat_lt most (length write.bytes - offset) then stops_at (offset + most)
     else and_one (reach_of (most - (length write.bytes - offset)) 0 writes)
 
--- the position that it comes to
+-- the position that the read comes to
 abbrev pub after_reach : PipeState → Reach → PipeState
 after_reach s reach =
     record s { read_whole = s.read_whole + reach.whole; offset = reach.offset }
@@ -201,7 +203,7 @@ after_reach s reach =
 abbrev pub after_stream : ℕ → PipeState → PipeState
 after_stream most s = after_reach s (reach_of most s.offset (unread_writes s))
 
--- a read of at most so many bytes: nothing but the position changes
+-- a read of at most this many bytes: nothing but the position changes
 abbrev pub after_read : ℕ → PipeState → PipeState
 after_read most s = by_mode s.mode (after_message most s) (after_stream most s)
 

@@ -11,11 +11,11 @@ use Rattle.sync_base.specs.Pipe.{PipeState, IsPipeState, opening_in, unread_byte
 use Rattle.sync_base.specs.Pipe.{MayAnswerRead, MayAnswerStreamRead, write_answer, write_result}
 use Rattle.sync_base.specs.Pipe.{read_answer, read_result, after_write, after_read, after_hangup}
 
--- what a write is answered may be answered
+-- the answer to a write is one that it may get
 abbrev pub WriteAnswersApply : Type 0
 WriteAnswersApply = (s : PipeState) → IsPipeState s → MayAnswerWrite s (write_answer s)
 
--- and it is the first that may, in the order Hungup, Full, Taken
+-- and it is the first answer that it may get, in the order Hungup, Full, Taken
 abbrev pub HungupComesFirst : Type 0
 HungupComesFirst = (s : PipeState) → MayAnswerWrite s Hungup → write_answer s ≡ Hungup
 
@@ -23,7 +23,7 @@ abbrev pub FullComesBeforeTaken : Type 0
 FullComesBeforeTaken =
     (s : PipeState) → s.hung ≡ false → MayAnswerWrite s Full → write_answer s ≡ Full
 
--- a write above the atomic size is refused first, and no other is
+-- a write above the atomic size is refused first, and no other write is
 abbrev pub TooBigComesFirst : Type 0
 TooBigComesFirst =
     (s : PipeState) (bytes : List ℕ)
@@ -36,7 +36,7 @@ OtherWritesAreAnswered =
     → length bytes ≤ ATOMIC_SIZE
     → write_result s bytes ≡ Ok (write_answer s)
 
--- a read of no bytes is refused first, and no other is
+-- a read of no bytes is refused first, and no other read is
 abbrev pub BadCountComesFirst : Type 0
 BadCountComesFirst = (s : PipeState) → read_result 0 s ≡ Err BadCount
 
@@ -44,8 +44,8 @@ abbrev pub OtherReadsAreAnswered : Type 0
 OtherReadsAreAnswered =
     (most : ℕ) (s : PipeState) → 0 < most → read_result most s ≡ Ok (read_answer most s)
 
--- what a read in message mode is answered may be answered of one write, and it is End where nothing
--- is left of a hung up direction
+-- the answer to a read in message mode is one that a read of one write may get, and it is End where
+-- nothing is left of a hung up direction
 abbrev pub ReadAnswersApply : Type 0
 ReadAnswersApply =
     (most : ℕ) (s : PipeState) → s.mode ≡ Message → MayAnswerRead most s (read_answer most s)
@@ -57,7 +57,7 @@ EndComesBeforeEmpty =
     → MayAnswerRead most s ReadAnswer.End
     → read_answer most s ≡ ReadAnswer.End
 
--- the same of a read in stream mode, which has any number of writes before it
+-- the same for a read in stream mode, which has any number of writes before it
 abbrev pub StreamReadAnswersApply : Type 0
 StreamReadAnswersApply =
     (most : ℕ) (s : PipeState)
@@ -80,7 +80,8 @@ StreamReadsLoseNothing =
     → IsPipeState s
     → unread_bytes (after_read most s) ≡ drop most (unread_bytes s)
 
--- where it had room for more than there is, each write is read whole, the empty ones too
+-- where such a read had room for more bytes than there are, each write is read whole, an empty
+-- write too
 abbrev pub StreamReadsPassAll : Type 0
 StreamReadsPassAll =
     (most : ℕ) (s : PipeState)

@@ -10,7 +10,7 @@ use Rattle.sync_base.specs.declared.answers.ReadAnswer.TheVariants.{Got, Empty, 
 use Rattle.sync_base.specs.declared.answers.PeekAnswer.{PeekAnswer}
 use Rattle.sync_base.specs.declared.answers.PeekAnswer.TheVariants as peek
 
--- what is kept
+-- what the pipe keeps
 pub record Contents : Type 0 where
   pub limit : ℕ
   pub mode : Mode
@@ -18,7 +18,7 @@ pub record Contents : Type 0 where
   pub offset : ℕ
   pub hung : Bool
 
--- it keeps all of this state but the writes that are read whole
+-- the pipe keeps all of this state but the writes that are read whole
 pub record Shows (kept : Contents) (s : PipeState) : Type 0 where
   pub limit : kept.limit ≡ s.limit
   pub mode : kept.mode ≡ s.mode
@@ -36,20 +36,20 @@ first_bytes (write ∷ writes) = write.bytes
 abbrev pub kept_bytes : Contents → List ℕ
 kept_bytes kept = drop kept.offset (joined kept.unread)
 
--- what is kept after a read that goes on and comes so far
+-- what is kept after a read that goes on from write to write and comes this far
 abbrev pub kept_after : Contents → Reach → Contents
 kept_after kept reach =
     record kept { unread = drop reach.whole kept.unread; offset = reach.offset }
 
--- how many of them no read has begun
+-- how many of the kept writes no read has begun
 abbrev pub kept_waiting : Contents → ℕ
 kept_waiting kept = length kept.unread - (if nat_lt 0 kept.offset then 1 else 0)
 
--- no direction has this limit
+-- the limit is one that no direction has
 abbrev pub IsBadLimit : ℕ → Type 0
 IsBadLimit limit = (limit ≡ 0) ⊎ (MAX_PIPE_LIMIT < limit)
 
--- what a read is answered whose bytes are lent
+-- the answer to a read whose bytes are lent
 abbrev pub lent_answer : PeekAnswer → ReadAnswer
 lent_answer (peek.Got bytes) = Got bytes.now
 lent_answer peek.Empty = Empty

@@ -1,18 +1,18 @@
 //! What a pipe answers to a write and to a read. Faults aside, a call gives one of these.
 use crate::piece::Piece;
 
-/// What a write was answered.
+/// The answer to a write.
 #[derive(Clone, Copy, Debug, PartialEq, Eq)]
 pub enum WriteAnswer {
-    /// It was accepted, and stands after all that was accepted before.
+    /// It was accepted, and comes after all that was accepted before.
     Taken,
-    /// As many writes as the limit allows stand that no read has begun.
+    /// The direction holds as many writes that no read has begun as the limit allows.
     Full,
     /// The direction is hung up.
     Hungup,
 }
 
-/// What a read was answered.
+/// The answer to a read.
 #[derive(Debug, Drop)]
 pub enum ReadAnswer {
     /// The next bytes of one write. An empty write gives an empty piece.
@@ -23,7 +23,7 @@ pub enum ReadAnswer {
     End,
 }
 
-/// What a read is answered where its bytes are lent and not given.
+/// The answer to a read whose bytes are lent, not given.
 #[derive(Clone, Copy)]
 pub enum PeekAnswer<'a> {
     /// The next bytes of one write. An empty write lends none.

@@ -14,7 +14,7 @@ pub enum Fault {
     /// A growth of memory was refused.
     #[error("out of memory")]
     Memory,
-    /// Notes ended a sleep: these, which are no longer pending.
+    /// These notes ended a sleep, and are no longer pending.
     #[error("interrupted")]
     Interrupted(NoteSet),
     /// A write came after the hangup of its direction.
@@ -29,7 +29,7 @@ pub enum Fault {
     /// An argument is outside its limits.
     #[error("bad argument")]
     BadArg,
-    /// No level is above the one that was asked for.
+    /// No level is above the level that was asked for.
     #[error("bad level")]
     BadLevel,
     /// A read asked for no bytes.
@@ -41,10 +41,10 @@ pub enum Fault {
     /// The last number of a write, a meeting or a grant was given.
     #[error("number worn out")]
     Worn,
-    /// There is no such process, or none is left.
+    /// There is no such process, or no process is left.
     #[error("no such process")]
     NoProc,
-    /// There is no such Rendez, or none is left.
+    /// There is no such Rendez, or no Rendez is left.
     #[error("no such rendez")]
     NoRendez,
     /// A flag of rfork that the call does not take.
@@ -53,7 +53,7 @@ pub enum Fault {
     /// The line with this number, counted from 1, is not in the grammar of the script.
     #[error("script fault at line {0}")]
     Script(u64),
-    /// A moment came before what was waited for.
+    /// The moment of a wait came before what it waited for.
     #[error("timed out")]
     TimedOut,
     /// A reader, a writer or the start of a thread failed.

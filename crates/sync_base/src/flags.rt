@@ -58,7 +58,7 @@ impl Flags {
         }
     }
 
-    /// What the flags ask for. None where a bit is set that is none of the three flags.
+    /// What the flags ask for, or none where a bit other than the three flags is set.
     pub const fn wants(self) -> Option<Wants>
         ensures known { IsSome result ↔ AreKnown self }
         ensures wants { IfSome result (λ wants. wants ≡ wants_of self) }

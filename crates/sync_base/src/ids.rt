@@ -1,4 +1,4 @@
-//! What processes, Rendez and rendezvous tags are called.
+//! The names of processes, Rendez and rendezvous tags.
 
 /// A process, by its number. Processes of a kernel count from 0.
 #[derive(Clone, Copy, Debug, PartialEq, Eq)]

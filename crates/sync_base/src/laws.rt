@@ -16,7 +16,8 @@ ghost use Rattle.sync_base.specs.PipeLaws.{StreamEndComesBeforeEmpty, StreamRead
 ghost use Rattle.sync_base.specs.PipeLaws.{StreamReadsPassAll, OpeningIsState, WritesKeepState};
 ghost use Rattle.sync_base.specs.PipeLaws.{ReadsKeepState, HangupKeepsState};
 
-/// A write above the atomic size and a read of no bytes are refused first, and no others are.
+/// A write above the atomic size and a read of no bytes are refused first, and no other write or
+/// read is.
 pub fn refusals_come_first()
     ensures too_big { TooBigComesFirst }
     ensures other_writes { OtherWritesAreAnswered }
@@ -24,7 +25,7 @@ pub fn refusals_come_first()
     ensures other_reads { OtherReadsAreAnswered }
 {}
 
-/// A write and a read are answered the first answer that applies.
+/// A write and a read get the first answer that applies.
 pub fn first_answer_that_applies()
     ensures write { WriteAnswersApply }
     ensures hungup { HungupComesFirst }
@@ -35,8 +36,8 @@ pub fn first_answer_that_applies()
     ensures stream_end { StreamEndComesBeforeEmpty }
 {}
 
-/// A read in stream mode leaves just the bytes that it had no room for, and where it had room for
-/// more than there is, no write.
+/// A read in stream mode leaves unread just the bytes that it had no room for. Where it had room
+/// for more than there is, it leaves no write.
 pub fn stream_reads_go_on()
     ensures loses_nothing { StreamReadsLoseNothing }
     ensures passes_all { StreamReadsPassAll }

@@ -6,7 +6,7 @@ pub const MAX_PROCS: u64 = 1_024;
 /// The most Rendez that a kernel or a world has. The least is 1.
 pub const MAX_RENDEZ: u64 = 8_192;
 
-/// The most writes that a direction of a pipe holds and no read has begun. The least such limit
+/// The most writes that a direction of a pipe holds before a read begins them. The least such limit
 /// is 1.
 pub const MAX_PIPE_LIMIT: u64 = 1_024;
 

@@ -1,4 +1,4 @@
-//! Notes after notify(2): what a process can be told while it runs or sleeps.
+//! Notes after notify(2): what a process can be sent while it runs or sleeps.
 ghost use Rattle.std.specs.Prelude.{◌≡◌, ◌↔◌, ◌||◌, ◌&&◌, not, false, IsTrue};
 ghost use Rattle.sync_base.specs.Note.{note_text};
 ghost use Rattle.sync_base.specs.NoteSet.{holds, is_same_note, joined, no_notes, only};

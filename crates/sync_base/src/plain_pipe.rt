@@ -83,7 +83,7 @@ impl PlainPipe {
         PlainPipe::new_in(alloc, Mode::Message, limit)
     }
 
-    /// The same of a pipe in stream mode: a read goes on from write to write.
+    /// The same in stream mode: a read goes on from write to write.
     ///
     /// BadSize: the limit is not from 1 to 1,024. Memory: room for as many writes was refused.
     pub fn new_stream(alloc: Global, limit: u64) -> Result<Self, Fault>
@@ -120,8 +120,8 @@ impl PlainPipe {
 
     /// Offers a write. It never waits, and takes memory for the bytes of a write that is taken.
     ///
-    /// TooBig: the write is longer than the atomic size. Memory: in place of `Taken`.
-    /// A refused write, and one that is answered `Full` or `Hungup`, changes nothing.
+    /// TooBig: the write is longer than the atomic size. Memory: in place of `Taken`. A write that
+    /// is refused, or answered `Full` or `Hungup`, changes nothing.
     pub fn write(&mut self, writer: u64, bytes: &[u8]) -> Result<WriteAnswer, Fault>
         // Refused first, and then nothing changes.
         ensures too_big { IsErrOf result Fault.TooBig ↔ (ATOMIC_SIZE < length bytes.now) }
@@ -154,10 +154,10 @@ impl PlainPipe {
     }
 
     /// Reads at most `most` bytes: of the next write alone, or in stream mode of as many writes as
-    /// they are in. It never waits, and takes memory for the bytes that it gives; `peek` and `pass`
-    /// are the same in two calls.
+    /// they span. It never waits, and takes memory for the bytes that it gives. `peek` and then
+    /// `pass` do the same in two calls.
     ///
-    /// BadCount: `most` is 0. Memory: in place of `Got`. Neither changes anything, and no empty
+    /// BadCount: `most` is 0. Memory: in place of `Got`. Neither fault changes anything: no empty
     /// write is passed.
     pub fn read(&mut self, most: u64) -> Result<ReadAnswer, Fault>
         // Refused first, and then nothing changes.
@@ -185,9 +185,9 @@ impl PlainPipe {
         Ok(answer)
     }
 
-    /// What a read of at most so many bytes would be answered, its bytes lent. Nothing changes. In
-    /// stream mode the bytes are joined in `room`, which takes memory where it is too small; else
-    /// `room` is not looked at, and no memory is taken.
+    /// The answer that a read of at most `most` bytes would get, with its bytes lent. Nothing
+    /// changes. In stream mode the bytes are joined in `room`, which takes memory where it is too
+    /// small; else `room` is not looked at, and no memory is taken.
     ///
     /// BadCount: `most` is 0. Memory: in stream mode, in place of `Got`.
     pub fn peek<'a>(&'a self, most: u64, room: &'a mut Vec<u8>) -> Result<PeekAnswer<'a>, Fault>
@@ -208,8 +208,8 @@ impl PlainPipe {
         }
     }
 
-    /// Moves the position as a read of at most so many bytes does, and gives none of them. The
-    /// block of a write that is used up is kept for a write to come. It takes no memory.
+    /// Moves the position as a read of at most `most` bytes does, and gives no bytes. The block of
+    /// a write that is used up is kept for a write to come. It takes no memory.
     pub fn pass(&mut self, most: u64)
         ensures { (s : PipeState) → Shows self.old s → Shows self.new (after_read most s) }
     {
@@ -250,7 +250,7 @@ impl PlainPipe {
         Ok(PeekAnswer::Got(room.as_slice()))
     }
 
-    /// What a read that finds no byte is answered.
+    /// The answer to a read that finds no byte.
     fn lend_nothing<'a>(&self) -> PeekAnswer<'a>
         ensures { lent_answer result ≡ nothing_read self.now.hung }
     {
@@ -261,7 +261,7 @@ impl PlainPipe {
         }
     }
 
-    /// Puts the next bytes after these, as many as there are and at most so many.
+    /// Appends the next bytes to `room`: all that there are, but at most `most`.
     fn join_onto(&self, most: u64, room: &mut Vec<u8>) -> Result<(), AllocError>
         ensures joined { OnOk result
             (room.new.items ≡ room.old.items ++ take most (kept_bytes self.now)) }
@@ -314,7 +314,7 @@ impl PlainPipe {
         }
     }
 
-    /// A block of these bytes, in one that is spare where there is one.
+    /// A block of these bytes, in a spare block where there is one.
     fn block_of(&mut self, bytes: &[u8]) -> Result<Vec<u8>, AllocError>
         ensures model { self.new ≡ self.old }
         ensures block { IfOk result (λ block. block.items ≡ bytes.now) }
@@ -327,7 +327,7 @@ impl PlainPipe {
         Ok(block)
     }
 
-    /// How many writes stand that no read has begun.
+    /// How many writes no read has begun.
     fn waiting(&self) -> u64
         ensures { result ≡ kept_waiting self.now }
     {
@@ -336,7 +336,7 @@ impl PlainPipe {
     }
 
     /// Takes the first write out, and keeps its block. There are never more blocks than places for
-    /// them, which were made with the pipe, so that this takes no memory.
+    /// them. The places were made with the pipe, so this takes no memory.
     fn pass_first(&mut self)
         requires { 0 < length self.old.unread }
         ensures { self.new ≡ record self.old { unread = drop 1 self.old.unread; offset = 0 } }
@@ -349,7 +349,7 @@ impl PlainPipe {
     }
 }
 
-/// The first bytes of these, at most so many.
+/// The first of these bytes, at most `most`.
 fn front_of(bytes: &[u8], most: u64) -> &[u8]
     ensures { result.now ≡ take most bytes.now }
 {
@@ -359,7 +359,7 @@ fn front_of(bytes: &[u8], most: u64) -> &[u8]
     bytes
 }
 
-/// Puts bytes after these. No bytes ask for no memory.
+/// Appends the bytes to `room`. Where there are no bytes, it asks for no memory.
 fn append(room: &mut Vec<u8>, bytes: &[u8]) -> Result<(), AllocError>
     ensures appended { OnOk result (room.new.items ≡ room.old.items ++ bytes.now) }
     ensures some { IsErr result → bytes.now ≢ [] }

@@ -1,7 +1,7 @@
-//! What a call passes on its way, so that a test can act between two of its steps.
+//! The points of a call, at which a test can act between two of its steps.
 
-/// Is told of each point that a call passes, by its number. What it does there is its own affair:
-/// a call keeps its contract whatever its probe does.
+/// The probe is called at each point that a call passes, with the point's number. A call keeps its
+/// contract whatever its probe does.
 pub trait Probe {
     fn at(&mut self, point: u64);
 }

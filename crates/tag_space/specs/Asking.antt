@@ -26,7 +26,7 @@ use Rattle.waiting.specs.Waiting.{Promise, Point, Waited}
 
 -- ---- one request
 
--- a request with its reply stands in the history, after a past that ends what the member had seen
+-- a request is in the history with its reply, and its past continues what the member had seen
 abbrev pub Asks : GroupCall → GroupReply → Account Entry → Account Entry → Type 0
 Asks call told before after =
     AddsEntry server (record { by = member_of call; request = call; reply = told }) before after
@@ -38,8 +38,8 @@ pub record Requests (space : TagSpace) (call : GroupCall) (told : GroupReply)
   pub one : IsOneOf space after
   pub same : IsSameMember before after
 
--- a member that called found one of the space's members, and rests; or it waits, with a count that
--- leaves a level above it; or it was worn out, and rests
+-- a member that called found one of the space's members, and its call is over; or it waits, with a
+-- count that leaves a level above it; or it was worn out, and its call is over
 abbrev pub IsCalled : TagSpace → Member → GroupReply → Type 0
 IsCalled space member (group.Met given other count) =
     (other < space.procs) × IsMemberOf space member
@@ -47,13 +47,13 @@ IsCalled space member (group.Wait count) = (count < TOP_LEVEL) × IsWaitingMembe
 IsCalled space member group.Worn = IsMemberOf space member
 IsCalled space member told = ⊥
 
--- one that asked was met, and rests; or it waits on
+-- a member that asked was met, and its call is over; or it waits on
 abbrev pub IsCollected : TagSpace → Member → GroupReply → Type 0
 IsCollected space member (group.WasMet given) = IsMemberOf space member
 IsCollected space member (group.Wait count) = (count < TOP_LEVEL) × IsWaitingMember space member
 IsCollected space member told = ⊥
 
--- and one that left rests
+-- and the call of a member that left is over
 abbrev pub IsLeft : TagSpace → Member → GroupReply → Type 0
 IsLeft space member (group.WasMet given) = IsMemberOf space member
 IsLeft space member group.Gone = IsMemberOf space member
@@ -67,7 +67,7 @@ pub record OnlyRequests (space : TagSpace) (call : GroupCall) (told : GroupReply
   pub requested : Requests space call told before.seat after.seat
   pub idle : after.process ≡ before.process
 
--- the call found one that waits, and woke its Rendez, once, with the count of its meetings
+-- the call found a call that waits, and woke its Rendez, once, with the count of its meetings
 pub record Finds (space : TagSpace) (call : GroupCall) (given : ℕ)
     (before after : Point Member) : Type 0 where
   pub other : ℕ
@@ -76,7 +76,7 @@ pub record Finds (space : TagSpace) (call : GroupCall) (given : ℕ)
   pub woken : WakesOne before.process (rendez_of_member space other) count after.process
 
 -- the first request is the call: it found a partner, or waits with the count of its meetings, or
--- that was the last count
+-- was refused because that was the last count
 abbrev pub Begins : TagSpace → Offered → Point Member → Reply ℕ → Point Member → Type 0
 Begins space offered before (reply.Done given) after =
     Finds space (Call (number_of before.seat) offered.tag offered.value) given before after
@@ -109,8 +109,9 @@ meeting space offered =
 
 -- ---- the call
 
--- One call makes one Call. Where that finds a partner it wakes the partner's Rendez and sleeps
--- never; else it waits on its member's own Rendez as a call of each device does, and wakes nobody.
+-- One call of rendezvous makes one Call. Where the Call finds a partner it wakes the partner's
+-- Rendez and never sleeps; else it waits on its member's own Rendez as a call of each device does,
+-- and wakes nobody.
 abbrev pub Meets : TagSpace → Offered → Point Member → Result ℕ Fault → Point Member → Type 0
 Meets space offered before answer after =
     Waited (meeting space offered) before.seat.rendez before answer after

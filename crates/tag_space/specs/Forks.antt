@@ -1,6 +1,6 @@
--- What rfork does to tag spaces, after fork(2): a child is in its parent's space, but with RFREND
--- the child is the first in a new space, or, where there is no child, the caller is. RFNOTEG does
--- the same for note groups, beside it.
+-- What rfork does to tag spaces, after fork(2): a child is in its parent's space. With RFREND the
+-- child is the first in a new space or, where there is no child, the caller is. RFNOTEG does the
+-- same for note groups, independently.
 use Rattle.std.specs.Prelude.{◌≡◌, ◌⊎◌, ⊤, ℕ, if◌then◌else◌, IsTrue, Option, Some, None}
 use Rattle.kernel_lock.specs.Seats.{KnowsAllGiven}
 use Rattle.sleep_wakeup.specs.Forks.{HasPid}
@@ -35,7 +35,7 @@ pub record WantsRow (unused : Unused) (flags : Flags) : Type 0 where
   pub pid : MayHavePid unused flags
   pub space : IsTrue (asks_space flags)
 
--- a pid was asked for, and none is left
+-- a pid was asked for, and no pid is left
 pub record WantsPid (unused : Unused) (flags : Flags) : Type 0 where
   pub known : AreKnown flags
   pub child : IsTrue (asks_child flags)
@@ -47,7 +47,7 @@ pub record Rfork : Type 0 where
   pub space : TagSpace
   pub flags : Flags
 
--- the call with these
+-- the call with these arguments
 abbrev pub rfork_of : Unused → TagSpace → Flags → Rfork
 rfork_of unused space flags = record { unused = unused; space = space; flags = flags }
 
@@ -72,7 +72,7 @@ WhyNotForked rfork before after other = ⊥
 abbrev pub ComesBack : Rfork → Member → Member → Type 0
 ComesBack rfork before after = (after ≡ before) ⊎ WantsMember rfork before after
 
--- the caller's space afterwards: a new one with RFREND alone, else its own
+-- the caller's space after the call: a new one with RFREND alone, else its own
 abbrev pub callers_space : Flags → TagSpace → Option TagSpace → TagSpace
 callers_space flags old None = old
 callers_space flags old (Some new) = if asks_child flags then old else new
@@ -82,20 +82,20 @@ abbrev pub childs_space : TagSpace → Option TagSpace → TagSpace
 childs_space old None = old
 childs_space old (Some new) = new
 
--- a new space of the same size is made exactly where RFREND is set
+-- a new space of the same size is made if and only if RFREND is set
 abbrev pub HasSpace : Unused → TagSpace → Flags → Option TagSpace → Type 0
 HasSpace unused old flags None = ¬ IsTrue (asks_space flags)
 HasSpace unused old flags (Some new) =
     IsTrue (asks_space flags) × IsNewSpace unused old.procs new
 
--- a child is made exactly where RFPROC is set: the next process, a member of its space
+-- a child is made if and only if RFPROC is set: the next process, a member of its space
 abbrev pub HasChild : Unused → TagSpace → Flags → Option Child → Type 0
 HasChild unused space flags None = ¬ IsTrue (asks_child flags)
 HasChild unused space flags (Some (proc, member)) =
     IsTrue (asks_child flags) × (proc ≡ next_process unused) × IsMemberOf space member
 
--- What is left: a row less where a space was made, and a pid less where a child was made. With
--- RFNOTEG the child is in a note group of its own, and where there is no child the caller is.
+-- What is left: a row fewer where a space was made, and a pid fewer where a child was made. With
+-- RFNOTEG the child is in a note group of its own or, where there is no child, the caller is.
 abbrev pub left_by : ℕ → Unused → TagSpace → Flags → Unused
 left_by parent unused space flags =
     let rows = if asks_space flags then rendez_less space.procs unused else unused in
@@ -120,18 +120,19 @@ pub record LeavesMember (flags : Flags) : Type 0 where
 abbrev pub IsUntouched : Flags → Member → Member → Type 0
 IsUntouched flags before after = LeavesMember flags → after ≡ before
 
--- a child that joins its parent has a further member, which its parent's gave and nothing else
+-- a child that joins its parent has a further member, which its parent's member gave, and it gave
+-- nothing else
 abbrev pub GivesMember : TagSpace → Flags → Member → Member → Option Child → Type 0
 GivesMember space flags before after None = ¬ JoinsParent flags
 GivesMember space flags before after (Some (proc, further)) =
     JoinsParent flags → IsFurtherMember space before after further
 
--- a caller that moves has spent the member that it had, which is as it was
+-- a caller that moves has spent its old member, which is as it was
 abbrev pub HasSpent : Flags → Member → Option SpentMember → Type 0
 HasSpent flags before None = ¬ MovesCaller flags
 HasSpent flags before (Some spent) = MovesCaller flags × (spent.member ≡ before)
 
--- who is in the new space is its first member: the child, or where there is none the caller
+-- the first member of the new space is the child or, where there is no child, the caller
 abbrev pub IsFirstThere : Option TagSpace → Member → Option Child → Type 0
 IsFirstThere None member child = ⊤
 IsFirstThere (Some new) member None = IsFirstMember new member

@@ -1,6 +1,6 @@
--- A tag space as an object for one thread: what is kept of each member, what each step is answered,
--- and what it leaves. After rendezvous(2). Own: the steps Collect and Leave, and the counts, by
--- which a member that waits is woken.
+-- A tag space as an object for one thread: what is kept of each member, the answer to each step,
+-- and what the step leaves. After rendezvous(2). Own: the steps Collect and Leave, and the counts,
+-- by which a member that waits is woken.
 use Rattle.std.specs.Prelude.{ℕ, ◌+◌, ◌==◌, nat_lt, Bool, true, false, ◌&&◌, if◌then◌else◌}
 use Rattle.std.specs.Prelude.{Option, Some, None, List, length, replicate}
 use Rattle.std.specs.Prelude.{slice_index_or, slice_set}
@@ -20,7 +20,7 @@ use Rattle.tag_space.specs.declared.limits.TheConstants.{LAST_MEETING}
 abbrev pub fresh_place : ℕ → Place
 fresh_place count = record { state = Idle; meetings = count }
 
--- before the first call nobody waits, and each count is this one
+-- before the first call nobody waits, and each member has this count
 abbrev pub opening : ℕ → ℕ → List Place
 opening members count = replicate members (fresh_place count)
 
@@ -28,12 +28,12 @@ opening members count = replicate members (fresh_place count)
 abbrev pub place_of : List Place → ℕ → Place
 place_of places member = slice_index_or places member (fresh_place 0)
 
--- the place is taken in: the member's state becomes this one, and its count
+-- the member's state becomes this one, and its count this one
 abbrev pub put : List Place → ℕ → CallState → ℕ → List Place
 put places member state count =
     slice_set places member (record { state = state; meetings = count })
 
--- whether a member with this state has no call that isn't over
+-- whether a member with this state has no call under way
 abbrev pub is_idle : CallState → Bool
 is_idle Idle = true
 is_idle (Waiting tag value) = false
@@ -60,7 +60,7 @@ abbrev pub may_call : List Place → ℕ → Bool
 may_call places member =
     nat_lt member (length places) && is_idle (place_of places member).state
 
--- a call of this member, where this one waits with its tag
+-- the answer to a call of this member, where `waiter` waits with its tag
 abbrev pub answer_to_call : List Place → ℕ → Option ℕ → GroupReply
 answer_to_call places member (Some waiter) =
     let place = place_of places waiter in
@@ -69,19 +69,19 @@ answer_to_call places member None =
     let count = (place_of places member).meetings in
     if count == LAST_MEETING then reply.Worn else reply.Wait count
 
--- a member with this state and this count asks whether its call was met
+-- the answer where a member with this state and this count asks whether its call was met
 abbrev pub answer_to_collect : CallState → ℕ → GroupReply
 answer_to_collect Idle count = reply.Wait count
 answer_to_collect (Waiting tag value) count = reply.Wait count
 answer_to_collect (Met value) count = reply.WasMet value
 
--- the same of one that waits no longer
+-- the same where the member waits no longer
 abbrev pub answer_to_leave : CallState → GroupReply
 answer_to_leave Idle = reply.Gone
 answer_to_leave (Waiting tag value) = reply.Gone
 answer_to_leave (Met value) = reply.WasMet value
 
--- what each step is answered
+-- the answer to each step
 abbrev pub answer_to : List Place → GroupCall → GroupReply
 answer_to places (Call member tag value) =
     if may_call places member
@@ -97,7 +97,7 @@ answer_to places (Leave member) =
     then answer_to_leave (place_of places member).state
     else reply.Busy
 
--- the call that waits is met by one with this value, or this call waits in its turn
+-- a call with this value meets the call that waits, or waits in its turn
 abbrev pub after_call : List Place → ℕ → Tag → ℕ → Option ℕ → List Place
 after_call places member tag value (Some waiter) =
     put places waiter (Met value) ((place_of places waiter).meetings + 1)
@@ -105,7 +105,7 @@ after_call places member tag value None =
     let count = (place_of places member).meetings in
     if count == LAST_MEETING then places else put places member (Waiting tag value) count
 
--- a call that was met is over once its member was told
+-- a call that was met is over once its member got the answer
 abbrev pub after_collect : CallState → CallState
 after_collect Idle = Idle
 after_collect (Waiting tag value) = Waiting tag value

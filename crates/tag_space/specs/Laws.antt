@@ -68,7 +68,7 @@ EachCallHasOneAnswer =
     → IsLegal (rendezvous space) [] past → IsAnswered space past call first
     → IsAnswered space past call second → first ≡ second
 
--- a call that finds a partner is in a pair, and is given the partner's value
+-- a call that finds a partner is in a pair, and gets the partner's value
 abbrev pub FoundIsInPair : Type 0
 FoundIsInPair =
     (space : Space) (past : List Entry) (by member : ℕ) (tag : Tag) (value given other count : ℕ)
@@ -78,19 +78,19 @@ FoundIsInPair =
     (record { by = by; request = Call member tag value; reply = Met given other count } ∷ past)
     (record { number = length past; member = member; tag = tag.0; value = value }) given
 
--- the member is told of this value: a call of its own is in a pair, whose partner gives it
+-- the member gets this value: a call of its own is in a pair, whose partner gives it
 pub record IsToldOf (past : List Entry) (member given : ℕ) : Type 0 where
   pub offer : Offer
   pub mine : offer.member ≡ member
   pub in_pair : IsInPair past offer given
 
--- a member that may be told of a meeting is in that pair
+-- a member that may get the answer of a meeting is in that pair
 abbrev pub ToldIsInPair : Type 0
 ToldIsInPair =
     (space : Space) (past : List Entry) (member given : ℕ) → IsLegal (rendezvous space) [] past
     → IsMet past member given → IsToldOf past member given
 
--- whoever is in a pair has a partner, whose call stands in the same history
+-- a call that is in a pair has a partner, which is a call of the same history
 abbrev pub PartnersAreCalls : Type 0
 PartnersAreCalls =
     (space : Space) (history : List Entry) (offer : Offer) (given : ℕ)
@@ -110,7 +110,7 @@ CallsAreByMembers =
     → IsHistory (rendezvous space) [] limit history
     → IsOneOfCalls offer (calls_by member history) → member < limit
 
--- who has a partner did not end alone
+-- a call with a partner did not end alone
 abbrev pub PairedIsNotAlone : Type 0
 PairedIsNotAlone =
     (history : List Entry) (offer : Offer) (given : ℕ) → IsInPair history offer given

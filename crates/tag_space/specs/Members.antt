@@ -39,8 +39,8 @@ rendez_of_member space number = record { 0 = space.first.0 + number }
 abbrev pub OwnsRow : TagSpace → Words → Type 0
 OwnsRow space words = space.first.0 + space.procs ≤ rendez_of words
 
--- One of the space's members, at a call or between two: what it has seen is a legal history of
--- rendezvous in this space, in which its own calls stand once each; and it has its own Rendez.
+-- One of the space's members, in a call or between two: what it has seen is a legal history of
+-- rendezvous in this space, which has each of its own calls once; and it has its own Rendez.
 pub record IsOneOf (space : TagSpace) (member : Member) : Type 0 where
   pub seat : IsSeatOf space.lock member.seat
   pub history : KnowsHistory (rendezvous (space_of space)) [] space.procs (account_of member)
@@ -51,8 +51,8 @@ pub record IsMemberOf (space : TagSpace) (member : Member) : Type 0 where
   pub one : IsOneOf space member
   pub rests : stage_of (seen_of member) (number_of member) ≡ Over
 
--- a member of the space whose last call is under way: it waits, and whoever meets it finds it, or
--- was met and has not been told
+-- a member of the space whose last call is under way: it waits, where a call that meets it will
+-- find it, or was met and has not got the answer
 pub record IsWaitingMember (space : TagSpace) (member : Member) : Type 0 where
   pub one : IsOneOf space member
   pub under_way : stage_of (seen_of member) (number_of member) ≢ Over

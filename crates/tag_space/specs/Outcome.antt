@@ -1,5 +1,5 @@
 -- What comes of a call of rendezvous, after rendezvous(2): two calls with one tag exchange their
--- values, and one that was interrupted exchanges nothing.
+-- values, and an interrupted call exchanges nothing.
 use Rattle.std.specs.Prelude.{◌≡◌, ◌≢◌, ◌⊎◌, ◌==◌, ℕ, List, [], ◌∷◌, ◌++◌, length, if◌then◌else◌}
 use Rattle.std.specs.Prelude.{Result, Ok, Err}
 use Rattle.histories.specs.History.{IsLegal}
@@ -12,7 +12,7 @@ use Rattle.tag_space.specs.Rendezvous.{Entry, Space, Party, Offered, Offer, Pair
 use Rattle.tag_space.specs.Rendezvous.{pairs_of, rendezvous}
 use Rattle.tag_space.specs.Promises.{IsAlone}
 
--- a request of the history, with this number: a call of the member stands before the others
+-- a request of the history, with this number: a call of the member comes before the others
 abbrev pub call_made : ℕ → ℕ → GroupCall → List Offer → List Offer
 call_made number member (Call caller tag value) others =
     if caller == member
@@ -31,7 +31,7 @@ abbrev pub IsOneOfPairs : Pair → List Pair → Type 0
 IsOneOfPairs pair [] = ⊥
 IsOneOfPairs pair (other ∷ pairs) = (other ≡ pair) ⊎ IsOneOfPairs pair pairs
 
--- the call is one of the pair, and the other one gives this value
+-- the call is one of the pair, and the other call gives this value
 abbrev pub Exchanges : Offer → ℕ → Pair → Type 0
 Exchanges offer given pair =
     ((pair.waiting ≡ offer) × (given ≡ pair.finding.value))
@@ -48,8 +48,8 @@ abbrev pub IsOneOfCalls : Offer → List Offer → Type 0
 IsOneOfCalls offer [] = ⊥
 IsOneOfCalls offer (other ∷ offers) = (other ≡ offer) ⊎ IsOneOfCalls offer offers
 
--- The other call of the pair: it is one of the calls of another member, with the same tag, it gives
--- this value, and it gets the value of this one.
+-- The other call of the pair: it is a call of another member, with the same tag, it gives this
+-- value, and it gets the value of this call.
 pub record HasPartner (history : List Entry) (offer : Offer) (given : ℕ) : Type 0 where
   pub partner : Offer
   pub call : IsOneOfCalls partner (calls_by partner.member history)
@@ -68,8 +68,8 @@ abbrev pub ComesOf : Space → List Entry → Offer → Result ℕ Fault → Typ
 ComesOf space history offer (Ok given) = IsInPair history offer given
 ComesOf space history offer (Err why) = IsOutForGood space history offer
 
--- The member made one call, its own, with this tag and this value. It is answered with a value
--- exactly where that call is in a pair: the partner's.
+-- The member made one call, its own, with this tag and this value. The answer is a value if and
+-- only if that call is in a pair, and the value is the partner's.
 pub record Exchange (party : Party) (offered : Offered) (before after : List Entry)
     (answer : Result ℕ Fault) : Type 0 where
   pub offer : Offer

@@ -1,5 +1,5 @@
--- What is promised of every history of a tag space: who meets whom, once, and who left meets
--- nobody.
+-- What is promised of every history of a tag space: which calls meet, each once, and that a member
+-- that left meets nobody.
 use Rattle.std.specs.Prelude.{◌≡◌, ◌≢◌, ◌⊎◌, ℕ, List, [], ◌∷◌, length}
 use Rattle.std.specs.List.{AllByRecursion}
 use Rattle.histories.specs.Account.{AreDifferent}
@@ -22,7 +22,7 @@ pub record IsMeeting (history : List Entry) (pair : Pair) : Type 0 where
   pub tags : pair.waiting.tag ≡ pair.finding.tag
   pub members : pair.waiting.member ≢ pair.finding.member
 
--- each pair is such a meeting
+-- each of the pairs is such a meeting
 abbrev pub AreMeetings : List Entry → Type 0
 AreMeetings history = AllByRecursion (IsMeeting history) (pairs_of history)
 
@@ -31,11 +31,11 @@ abbrev pub numbers_in : List Pair → List ℕ
 numbers_in [] = []
 numbers_in (pair ∷ pairs) = pair.waiting.number ∷ pair.finding.number ∷ numbers_in pairs
 
--- After rendezvous(2): a call meets one other.
+-- After rendezvous(2): a call meets one other call.
 abbrev pub MeetsOnce : List Entry → Type 0
 MeetsOnce history = AreDifferent (numbers_in (pairs_of history))
 
--- two calls that wait have two tags
+-- two calls that wait have different tags
 abbrev pub WaitApart : List Entry → Type 0
 WaitApart history =
     (member other : ℕ) (first second : Offer) → stage_of history member ≡ Waits first

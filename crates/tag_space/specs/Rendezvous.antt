@@ -1,7 +1,7 @@
 -- The history of a tag space: who called, who waits, and who met whom. After rendezvous(2): two
--- processes that call with one tag exchange their values, and the first waits for the second.
--- Own: Collect and Leave, by which a call that waits ends, and the counts of meetings.
--- It knows calls and pairs, and nothing of how a call that waits is found.
+-- processes that call with one tag exchange their values, and the first waits for the second. Own:
+-- Collect and Leave, by which a call that waits ends, and the counts of meetings. It has calls and
+-- pairs, and does not say how a call that waits is found.
 use Rattle.std.specs.Prelude.{◌≡◌, ◌≢◌, ◌==◌, ℕ, ◌+◌, ◌<◌, ◌≤◌, if◌then◌else◌}
 use Rattle.std.specs.Prelude.{Option, Some, None, List, [], ◌∷◌, ◌++◌, length, count_by}
 use Rattle.histories.specs.History.{Meaning}
@@ -29,7 +29,7 @@ pub record Party : Type 0 where
   pub space : Space
   pub member : ℕ
 
--- what a call of rendezvous(2) offers: a tag, and a value for whoever calls with the same tag
+-- what a call of rendezvous(2) offers: a tag, and a value for the call with the same tag
 pub record Offered : Type 0 where
   pub tag : Tag
   pub value : ℕ
@@ -41,18 +41,18 @@ pub record Offer : Type 0 where
   pub tag : ℕ
   pub value : ℕ
 
--- two calls that met: the one that waited, and the one that found it
+-- two calls that met: the call that waited, and the call that found it
 pub record Pair : Type 0 where
   pub waiting : Offer
   pub finding : Offer
 
--- what became of a member's last call that had to wait
+-- the state of a member's last call that had to wait
 pub data Stage : Type 0 where
   -- there was none, or it is over
   Over : Stage
   -- it waits
   Waits : (offer : Offer) → Stage
-  -- it was found, and its member was not told yet
+  -- it was found, and its member did not get the answer yet
   Paired : (pair : Pair) → Stage
 
 -- a call that waits is found by this one
@@ -61,7 +61,7 @@ found_by finding Over = Over
 found_by finding (Waits offer) = Paired (record { waiting = offer; finding = finding })
 found_by finding (Paired pair) = Paired pair
 
--- what a call that was answered so, with this number, makes of a member's stage
+-- the stage of a member after a call with this number that got this answer
 abbrev pub stage_after : ℕ → ℕ → Stage → GroupCall → GroupReply → Stage
 stage_after number member stage (Call caller tag value) (Wait count) =
     if caller == member
@@ -78,7 +78,7 @@ stage_after number member stage (Leave caller) (WasMet given) =
 stage_after number member stage (Leave caller) Gone = if caller == member then Over else stage
 stage_after number member stage call reply = stage
 
--- what became of the member's last call, after this history
+-- the state of the member's last call, after this history
 abbrev pub stage_of : List Entry → ℕ → Stage
 stage_of [] member = Over
 stage_of (entry ∷ past) member =
@@ -98,12 +98,12 @@ last_wait [] member = None
 last_wait (entry ∷ past) member =
     wait_after (length past) member (last_wait past member) entry.request entry.reply
 
--- a call that found this one is its partner
+-- the call that found this call is its partner
 abbrev pub pair_with : Offer → Option Offer → List Pair
 pair_with finding None = []
 pair_with finding (Some offer) = record { waiting = offer; finding = finding } ∷ []
 
--- the pair that a call makes that was answered so: the reply says whose call it found
+-- the pair that a call with this answer makes: the reply says whose call it found
 abbrev pub pair_made : List Entry → GroupCall → GroupReply → List Pair
 pair_made past (Call caller tag value) (Met given other count) =
     let finding : Offer =
@@ -116,7 +116,8 @@ abbrev pub pairs_of : List Entry → List Pair
 pairs_of [] = []
 pairs_of (entry ∷ past) = pair_made past entry.request entry.reply ++ pairs_of past
 
--- how often the member's waiting calls were met, counted from where the space began
+-- how often the member's waiting calls were met, counted on from the number with which the space
+-- began
 abbrev pub count_of : Space → List Entry → ℕ → ℕ
 count_of space past member =
     space.count + count_by (λ pair. pair.waiting.member == member) (pairs_of past)
@@ -131,14 +132,14 @@ abbrev pub NobodyWaits : List Entry → ℕ → Type 0
 NobodyWaits past tag =
     (member : ℕ) (offer : Offer) → stage_of past member ≡ Waits offer → offer.tag ≢ tag
 
--- what a call is told of the one that it found: the value that this one gives, whose it is,
--- and how often the calls of that member were met with this one
+-- the answer to a call about the call that it found: the value that this one gives, its member, and
+-- how often the member's calls were met, this meeting included
 pub record Found : Type 0 where
   pub given : ℕ
   pub other : ℕ
   pub count : ℕ
 
--- a call with this tag finds a call that waits, and is told this of it
+-- a call with this tag finds a call that waits, and gets this answer about it
 pub record Finds (space : Space) (past : List Entry) (tag : ℕ) (found : Found) : Type 0 where
   pub offer : Offer
   pub waits : stage_of past found.other ≡ Waits offer
@@ -146,18 +147,18 @@ pub record Finds (space : Space) (past : List Entry) (tag : ℕ) (found : Found)
   pub given_is : found.given ≡ offer.value
   pub count_is : found.count ≡ count_of space past found.other + 1
 
--- the member's call was found by one that gives this value
+-- the member's call was found by a call that gives this value
 pub record IsMet (past : List Entry) (member given : ℕ) : Type 0 where
   pub pair : Pair
   pub paired : stage_of past member ≡ Paired pair
   pub given_is : given ≡ pair.finding.value
 
--- there is such a member, and no call of it was found that it was not told of
+-- there is such a member, and it got the answer for each call of it that was found
 pub record IsUnmet (space : Space) (past : List Entry) (member : ℕ) : Type 0 where
   pub exists : member < space.members
   pub none : (pair : Pair) → stage_of past member ≢ Paired pair
 
--- the call may be answered so after this history
+-- the call may get this answer after this history
 abbrev pub IsAnswered : Space → List Entry → GroupCall → GroupReply → Type 0
 IsAnswered space past (Call member tag value) (Met given other count) =
     MayCall space past member
@@ -180,7 +181,7 @@ IsAnswered space past (Leave member) Gone = IsUnmet space past member
 IsAnswered space past (Leave member) Busy = space.members ≤ member
 IsAnswered space past call reply = ⊥
 
--- a member makes its own calls, and each is answered as the history before it asks
+-- a member makes its own calls, and each gets the answer that the history before it asks for
 pub record IsRight (space : Space) (past : List Entry) (entry : Entry) : Type 0 where
   pub own : entry.by ≡ member_of entry.request
   pub answered : IsAnswered space past entry.request entry.reply

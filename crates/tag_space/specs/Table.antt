@@ -1,5 +1,5 @@
--- The table in which a tag space finds who waits: an entry for each call that waits, tags rising,
--- in one piece of memory, with room on both sides.
+-- The table in which a tag space finds the call that waits with a tag: an entry for each call that
+-- waits, tags rising, in one piece of memory, with room on both sides.
 use Rattle.std.specs.Prelude.{◌≡◌, ℕ, ◌+◌, ◌*◌, ◌-◌, ◌<◌, ◌≤◌, Bool, true, false}
 use Rattle.std.specs.Prelude.{List, length, take, drop, slice_index_or, count_by}
 use Rattle.sync_base.specs.declared.ids.Tag.{Tag}
@@ -32,7 +32,7 @@ pub record IsAt (table : List TagEntry) (tag i : ℕ) : Type 0 where
   pub in_range : i < length table
   pub has_tag : tag_at table i ≡ tag
 
--- the tag would go at place i: smaller tags before it, and greater ones from it on
+-- the tag would be at place i: smaller tags are before it, and greater ones from it on
 pub record IsGapFor (table : List TagEntry) (tag i : ℕ) : Type 0 where
   pub in_range : i ≤ length table
   pub smaller_before : (j : ℕ) → j < i → tag_at table j < tag
@@ -52,7 +52,7 @@ is_waiting (Met value) = false
 abbrev pub waiters : List Place → ℕ
 waiters places = count_by (λ place. is_waiting place.state) places
 
--- the list is the calls that wait, each once, tags rising
+-- the list has the calls that wait, each once, tags rising
 pub record ListsWaiting (entries : List TagEntry) (places : List Place) : Type 0 where
   pub rising : IsRising entries
   pub waits : (i : ℕ) → i < length entries
@@ -60,14 +60,15 @@ pub record ListsWaiting (entries : List TagEntry) (places : List Place) : Type 0
   pub has_entry : (tag member : ℕ) → waits_at places tag member ≡ true
       → (i : ℕ) × (i < length entries) × (tag_at entries i ≡ tag) × (member_at entries i ≡ member)
 
--- no count is above the last, and one that waits can still be counted
+-- no count is above the last count, and the next meeting of a member that waits can still be
+-- counted
 pub record AreCounts (places : List Place) : Type 0 where
   pub within : (member : ℕ) → (place_of places member).meetings ≤ LAST_MEETING
   pub waiting : (member : ℕ) → is_waiting (place_of places member).state ≡ true
       → (place_of places member).meetings < LAST_MEETING
 
--- what a space keeps: its members, the table of those who wait, one for each, and room for an
--- entry of each member
+-- what a space keeps: its members, the table of the members that wait, an entry for each, and room
+-- for an entry of each member
 pub record IsGroupObject (table : List TagEntry) (places : List Place) (room : ℕ) : Type 0 where
   pub entries : ListsWaiting table places
   pub as_many : length table ≡ waiters places
@@ -76,13 +77,13 @@ pub record IsGroupObject (table : List TagEntry) (places : List Place) (room : �
 
 -- ---- a search for a tag in a table, narrowed step by step
 
--- smaller tags before place i, and none from so many entries further on
+-- the tags before place i are smaller, and from `left` entries further on no tag is
 pub record IsNarrowed (table : List TagEntry) (tag i left : ℕ) : Type 0 where
   pub in_range : i + left ≤ length table
   pub smaller_before : (j : ℕ) → j < i → tag_at table j < tag
   pub none_after : (j : ℕ) → i + left ≤ j → j < length table → tag ≤ tag_at table j
 
--- of three quarters from place i on, so many end with a smaller tag, and those are the first
+-- of the three quarters from place i on, this many end with a smaller tag, and they are the first
 pub record AreSmaller (table : List TagEntry) (tag i quarter count : ℕ) : Type 0 where
   pub most : count ≤ 3
   pub last : 0 < count → tag_at table (i + count * quarter - 1) < tag

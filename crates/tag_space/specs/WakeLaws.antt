@@ -1,5 +1,5 @@
--- No wakeup of a rendezvous is lost: whom a call found is released once that call has returned, and
--- is woken above what it was told when it began to sleep.
+-- No wakeup of a rendezvous is lost: the call that was found is released once the call that found
+-- it has returned, and it is woken above the number with which it began to sleep.
 use Rattle.std.specs.Prelude.{◌≡◌, ◌<◌, ℕ, List, [], ◌∷◌, ◌++◌}
 use Rattle.histories.specs.History.{IsLegal}
 use Rattle.rendez_words.specs.declared.view.Sizes.{Sizes}
@@ -17,8 +17,8 @@ use Rattle.tag_space.specs.Rendezvous.{Entry, Space, rendezvous}
 use Rattle.waiting.specs.Waiting.{Point}
 use Rattle.waiting.specs.Wakeups.{HasGoneOn}
 
--- Whoever fell asleep on a member's Rendez below the count of a meeting is no longer posted there,
--- once the call that found the member's has returned.
+-- A process that fell asleep on a member's Rendez below the count of a meeting is no longer posted
+-- there, once the call that found the member's has returned.
 abbrev pub FindingReleasesThePartner : Type 0
 FindingReleasesThePartner =
     (sizes : Sizes) (s : _) (shows : ShowsCore sizes s)
@@ -27,8 +27,7 @@ FindingReleasesThePartner =
     → ReleasesBelow (world_of sizes.procs sizes.rendez shows.run)
     (rendez_of_member space finds.other) finds.count
 
--- And that is enough: a member that was told to wait with this number is found with a count above
--- it.
+-- And that is enough: a member that has to wait with this number is found with a count above it.
 abbrev pub WaitersAreFoundAbove : Type 0
 WaitersAreFoundAbove =
     (space : Space) (past since : List Entry) (waits found : Entry)

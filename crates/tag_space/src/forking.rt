@@ -36,11 +36,12 @@ pub struct SpentMember {
 /// What rfork made.
 #[derive(Drop)]
 pub struct Forked<'k> {
-    /// The caller's member, which with RFREND alone is the first of the new space.
+    /// The caller's member. With RFREND alone it is the first of the new space.
     pub member: Member,
     /// The new space, with RFREND.
     pub space: Option<TagSpace>,
-    /// The child and its member, with RFPROC. With RFREND too it is the first of the new space.
+    /// The child and its member, with RFPROC. With RFREND too, the member is the first of the new
+    /// space.
     pub child: Option<(Proc<'k>, Member)>,
     /// With RFREND alone, the member that the caller had in its old space.
     pub spent: Option<SpentMember>,
@@ -54,13 +55,13 @@ pub struct NotForked {
 }
 
 /// After fork(2): makes a child with RFPROC, and a new tag space with RFREND. A child is in its
-/// parent's space, but with RFREND it is the first in a new one. With RFREND alone the caller is,
-/// and its old member is spent. A new space has as many members as the old one. With RFNOTEG a
-/// child is the first of a new note group, and without RFPROC the caller is.
+/// parent's space or, with RFREND, the first in a new one. With RFREND alone the caller is the
+/// first in the new space, and its old member is spent. A new space has as many members as the old
+/// one. With RFNOTEG a child is the first of a new note group; without RFPROC the caller is.
 ///
 /// Refuses, in this order, as `BadFlags` for any other flag, `NoProc` where no pid is left,
 /// `NoRendez` where no row for a new space is left, `NoProc` where the old space has had all its
-/// members, and `Memory`; a refusal uses up no pid, no Rendez and no member, and hands the member
+/// members, and `Memory`. A refusal uses up no pid, no Rendez and no member, and hands the member
 /// back. Waits for other callers of the space.
 pub fn rfork<'k, R: Wait>(
     alloc: Global,

@@ -9,12 +9,12 @@ ghost use Rattle.tag_space.specs.Laws.{CallsAreByMembers, PairedIsNotAlone};
 ghost use Rattle.tag_space.specs.WakeLaws.{FindingReleasesThePartner, WaitersAreFoundAbove};
 
 /// Each history of a space as an object is a history of rendezvous: calls meet by their tags, each
-/// gets the other's value, and whoever left meets nobody.
+/// gets the other's value, and a member that left meets nobody.
 pub fn objects_are_spaces()
     ensures { ObjectsAreSpaces }
 {}
 
-/// After every history a call has one answer: the history says exactly where each comes.
+/// After every history a call has one answer, which the history determines.
 pub fn each_call_has_one_answer()
     ensures { EachCallHasOneAnswer }
 {}
@@ -27,8 +27,8 @@ pub fn calls_meet_in_pairs()
     ensures apart { WaitingTagsDiffer }
 {}
 
-/// Whoever is told of a meeting is in that pair, and is told the value that its partner gave: a
-/// call that finds a partner, and a member that asks or leaves.
+/// A member that gets the answer of a meeting is in that pair, and the answer has the value that
+/// its partner gave: for a call that finds a partner, and for a member that asks or leaves.
 pub fn who_is_told_is_in_a_pair()
     ensures found { FoundIsInPair }
     ensures told { ToldIsInPair }
@@ -41,8 +41,8 @@ pub fn who_is_out_meets_nobody()
     ensures worn { WhoIsWornMeetsNobody }
 {}
 
-/// Whoever is in a pair has a partner: a call of another member, with the same tag, whose value it
-/// gets and which gets its value; and so it stays, and neither of them ends alone. The calls of a
+/// A call that is in a pair has a partner: a call of another member, with the same tag, whose value
+/// it gets and which gets its value. It stays so, and neither of them ends alone. The calls of a
 /// history are by members of its space.
 pub fn partners_have_each_others_values()
     ensures partner { PartnersAreCalls }
@@ -62,8 +62,9 @@ pub fn interrupted_word()
     ensures { InterruptedIs }
 {}
 
-/// No call that waits stays posted once the call that found it has returned: whoever sleeps below
-/// the count of the meeting is released, and each number that its member was told is below it.
+/// No call that waits stays posted once the call that found it has returned: a member that sleeps
+/// below the count of the meeting is released, and each number that it got to wait with is below
+/// that count.
 pub fn who_is_found_is_released()
     ensures released { FindingReleasesThePartner }
     ensures above { WaitersAreFoundAbove }

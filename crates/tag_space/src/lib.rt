@@ -1,8 +1,8 @@
 //! Rendezvous in tag spaces, after rendezvous(2): two members of a space that call with one tag
-//! exchange their values. Read `calls`, what a member asks and is answered, `limits`, `place`, what
+//! exchange their values. Read `calls`, what a member asks and the answers, `limits`, `place`, what
 //! is kept of a member, `table` and `tag_table`, how a tag is found, `group_object`, the space as
-//! an object for one thread; then `member`, `space`, `asking`, `meeting` and `forking`,
-//! the space between threads; and then `laws`.
+//! an object for one thread; then `member`, `space`, `asking`, `meeting` and `forking`, the space
+//! between threads; and then `laws`.
 #![tactic(auto)]
 
 mod asking;

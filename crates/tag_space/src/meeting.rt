@@ -14,7 +14,7 @@ use std::sync::Wait;
 use sync_base::{Fault, NoProbe, Probe, Tag};
 use waiting::{Forever, Runner};
 
-/// What `rendezvous_word` answers where notes ended the wait. rendezvous(2) answers ~0.
+/// The answer of `rendezvous_word` where notes ended the wait. rendezvous(2) answers ~0.
 pub const INTERRUPTED: u64 = u64::MAX;
 
 impl TagSpace {
@@ -51,8 +51,8 @@ impl TagSpace {
         self.rendezvous_probed(rt, proc, member, tag, value, &mut NoProbe)
     }
 
-    /// A `rendezvous` that tells a probe of its points: 1 before it calls, 2 before each sleep,
-    /// 3 after each sleep, 4 at the end.
+    /// A `rendezvous` that calls its probe at its points: 1 before it calls, 2 before each sleep, 3
+    /// after each sleep, 4 at the end.
     pub fn rendezvous_probed<R: Wait, P: Probe>(
         &self,
         rt: &R,
@@ -82,8 +82,9 @@ impl TagSpace {
         answer
     }
 
-    /// A `rendezvous` that waits as its runner does. The probe is told 2 before and 3 after each
-    /// sleep for a partner. Takes no memory. Own; rendezvous(2) waits as long as it takes.
+    /// A `rendezvous` that waits as its runner does. The probe is called at its points 2, before
+    /// each sleep for a partner, and 3, after it. Takes no memory. Own; rendezvous(2) waits as long
+    /// as it takes.
     ///
     /// Refuses as `Worn` as `rendezvous` does, and then as its runner does where it waits; a
     /// refused call is in no exchange, and nobody meets it later.
@@ -128,7 +129,8 @@ impl TagSpace {
     }
 
     /// A `rendezvous` that answers `Ok(INTERRUPTED)` in place of `Interrupted`, after
-    /// rendezvous(2). A partner that gives this value can't be told from an interruption.
+    /// rendezvous(2). A caller can't distinguish a partner that gives this value from an
+    /// interruption.
     pub fn rendezvous_word<R: Wait>(
         &self,
         rt: &R,

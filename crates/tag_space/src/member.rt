@@ -13,8 +13,8 @@ pub struct Member {
 }
 
 impl Member {
-    /// The Rendez in which it waits for a partner: the first of its space, and its own number on.
-    /// Takes no memory and doesn't wait.
+    /// The Rendez in which it waits for a partner: the first Rendez of its space, plus its own
+    /// number. Takes no memory and doesn't wait.
     pub fn rendez(&self) -> RendezId
         ensures { result ≡ self.now.rendez }
     {

@@ -5,14 +5,14 @@ ghost use Rattle.tag_space.specs.GroupObject.{value_given};
 use crate::limits::LAST_MEETING;
 use sync_base::Tag;
 
-/// What became of the member's last call that had to wait.
+/// The state of the member's last call that had to wait.
 #[derive(Clone, Copy, Debug, PartialEq, Eq)]
 pub enum CallState {
     /// There was none, or it is over.
     Idle,
     /// It waits with this tag, and gives this value.
     Waiting { tag: Tag, value: u64 },
-    /// A call that gives this value met it, and the member was not told yet.
+    /// A call that gives this value met it, and the member did not get the answer yet.
     Met { value: u64 },
 }
 
@@ -20,7 +20,7 @@ pub enum CallState {
 #[derive(Clone, Copy, Debug, PartialEq, Eq)]
 pub struct Place {
     pub state: CallState,
-    /// How often its waiting calls were met, counted from where the space began.
+    /// How often its waiting calls were met, counted on from the number with which the space began.
     pub meetings: u64,
 }
 

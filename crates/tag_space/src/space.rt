@@ -16,7 +16,7 @@ use sync_base::{Fault, RendezId};
 #[derive(Drop)]
 pub struct TagSpace {
     pub(crate) lock: Locked<GroupObject>,
-    /// The Rendez of its members are a row, which begins here.
+    /// The first Rendez of the row in which its members sleep.
     pub(crate) first: RendezId,
     /// How many members it may have.
     pub(crate) procs: u64,
@@ -39,8 +39,8 @@ impl TagSpace {
     ghost use Rattle.sleep_wakeup.specs.Kernel.{HasRendez, rendez_less};
     ghost use Rattle.tag_space.specs.Spaces.{IsNewSpace, IsFirstMember, WhyNoSpace, WhyNoGroup};
 
-    /// A space of so many members, with a row of so many Rendez, and its first member.
-    /// Refuses, in this order, as `NoProc`, `NoRendez` and `Memory`. Doesn't wait.
+    /// A space of this many members, with a row of as many Rendez, and its first member. Refuses,
+    /// in this order, as `NoProc`, `NoRendez` and `Memory`. Doesn't wait.
     pub fn new(alloc: Global, roster: &mut Roster, procs: u64) -> Result<Opened, Fault>
         // Refused first, and then no Rendez is used up.
         ensures in_range { OnOk result (IsProcCount procs) }
@@ -109,9 +109,9 @@ impl TagSpace {
     ghost use Rattle.tag_space.specs.Members.{IsMemberOf, IsSameMember};
     ghost use Rattle.tag_space.specs.Spaces.{IsFurtherMember, JoinsMembers};
 
-    /// A further member of the space, for a child of the process that has this one.
-    /// Refuses as `NoProc` where the space has had all its members. Waits for other callers of the
-    /// space. Takes no memory.
+    /// Another member of the space, for a child of the process that has this one. Refuses as
+    /// `NoProc` where the space has had all its members. Waits for other callers of the space.
+    /// Takes no memory.
     pub fn fork_member<R: Wait>(&self, rt: &R, member: &mut Member) -> Result<Member, Fault>
         requires member { IsMemberOf self.now member.old }
 
@@ -134,7 +134,8 @@ impl TagSpace {
     }
 
     /// Makes one member of two, each between two calls. It calls as the first, and has seen what
-    /// both have. Tests alone call it, to see who met whom. Takes no memory and doesn't wait.
+    /// both have seen. Tests alone call it, to see which members met. Takes no memory and doesn't
+    /// wait.
     pub fn join_members(&self, first: Member, second: Member) -> Member
         requires first { IsMemberOf self.now first }
         requires second { IsMemberOf self.now second }

@@ -1,5 +1,5 @@
 //! The entries of a space's table in one piece of memory, with room on both sides, so that only the
-//! shorter side moves where one comes or goes.
+//! shorter side moves where an entry is put in or taken out.
 ghost use Rattle.std.specs.Prelude.{◌≤◌, ◌+◌, length};
 
 use std::alloc::{AllocError, Global};
@@ -20,7 +20,7 @@ impl TagTable {
     ghost use Rattle.std.specs.List.{insert, remove};
     ghost use Rattle.tag_space.specs.Table.{entries_of, room_of};
 
-    /// No entries, with room for so many. It takes all its memory here.
+    /// No entries, with room for this many. It takes all its memory here.
     pub(crate) fn new(alloc: Global, room: usize) -> Result<TagTable, AllocError>
         ensures none { IfOk result (λ entries. entries_of entries ≡ []) }
         ensures room { IfOk result (λ entries. room ≤ room_of entries) }
@@ -51,8 +51,8 @@ impl TagTable {
         &self.slots[self.first..self.first + self.count]
     }
 
-    /// Puts the entry at this place. The entries on one side of it move by one: on the shorter
-    /// side, if there is room.
+    /// Puts the entry at this place. The entries on one side of it move by one place: on the
+    /// shorter side, if there is room.
     pub(crate) fn insert(&mut self, at: usize, entry: (Tag, u64))
         requires at { at ≤ length (entries_of self.old) }
         requires room { length (entries_of self.old) < room_of self.old }
@@ -96,7 +96,7 @@ impl TagTable {
         self.count += 1;
     }
 
-    /// Takes the entry at this place out. The entries on its shorter side move by one.
+    /// Takes the entry at this place out. The entries on its shorter side move by one place.
     pub(crate) fn remove(&mut self, at: usize) -> (Tag, u64)
         requires { at < length (entries_of self.old) }
         ensures entry { result ≡ slice_index_or (entries_of self.old) at result }

@@ -25,7 +25,7 @@ const UNITS: u64 = 1_000;
 /// The units at first: fewer than processes.
 const OPENING: u32 = 3;
 
-/// What the processes tell each other, outside the pool.
+/// What the processes share outside the pool.
 #[derive(Drop)]
 struct Board {
     seed: u64,
@@ -43,7 +43,7 @@ struct Job<'s, 't, 'k> {
     number: u64,
 }
 
-/// How many units it acquired and released, and how many calls were answered as none may be.
+/// How many units it acquired and released, and how many calls got an answer that no call may get.
 #[derive(Clone, Copy, PartialEq, Eq)]
 struct Work {
     acquired: u64,

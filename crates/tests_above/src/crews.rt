@@ -6,10 +6,11 @@ use std::sync::atomic::AtomicU64;
 use std::sync::atomic::Ordering::SeqCst;
 use std::thread::{Threads, yield_now};
 
-/// For how many turns a writer is held at a gate. At each it lets others run.
+/// For how many turns a gate holds a writer. At each turn it lets others run.
 const TURNS: u64 = 10_000_000;
 
-/// Holds each writer until so many have come, for so many turns at most, and then sends it away.
+/// Holds each writer until `wanted` writers have come, for `TURNS` turns at most, and then sends it
+/// away.
 #[derive(Drop)]
 struct Meeting {
     wanted: u64,
@@ -34,7 +35,7 @@ impl Gate for Meeting {
 /// Sends some writers away at some of their writes, and counts its calls.
 #[derive(Drop)]
 struct Turnstile {
-    /// The one who is sent away, or all.
+    /// The writer that is sent away, or all writers.
     writer: Option<u64>,
     write: u64,
     calls: AtomicU64,

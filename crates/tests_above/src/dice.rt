@@ -1,17 +1,17 @@
-//! Numbers in no order that a reader could tell. Each run has a seed of its own, which a crowd
+//! Numbers in no order that a reader could predict. Each run has a seed of its own, which a crowd
 //! prints where it fails; with that seed in the variable `SEED` it makes the same choices again.
 use std::alloc::{AllocGlobal, Global};
 use std::env::{self, Env};
 use std::time::Clock;
 
-/// The choices of one of a crowd.
+/// The choices of one process of a crowd.
 #[derive(Drop)]
 pub struct Dice {
     state: u64,
 }
 
 impl Dice {
-    /// Those of this one of the crowd: no other of it has the same.
+    /// The choices of the process with this number: no other has the same.
     pub fn of(seed: u64, number: u64) -> Dice {
         let mut dice = Dice {
             state: seed ^ number.wrapping_mul(0x9e37_79b9_7f4a_7c15),
@@ -20,7 +20,7 @@ impl Dice {
         dice
     }
 
-    /// A number below this one.
+    /// A number below `below`.
     pub fn roll(&mut self, below: u64) -> u64 {
         self.state = self
             .state

@@ -16,7 +16,7 @@ struct Spot {
     rendez: u64,
 }
 
-/// What a call answered. `first` is the first guest of a new hall.
+/// The answer of a call. `first` is the first guest of a new hall.
 #[derive(Clone, Copy, Debug, PartialEq, Eq)]
 enum Came {
     Alone { guest: Spot },
@@ -26,7 +26,7 @@ enum Came {
     Refused { guest: Spot, fault: Fault },
 }
 
-/// How many processes and Rendez the kernel has, and guests the hall.
+/// How many processes and Rendez the kernel has, and how many guests the hall.
 #[derive(Clone, Copy)]
 struct Sizes {
     procs: u64,
@@ -34,8 +34,8 @@ struct Sizes {
     guests: u64,
 }
 
-/// A call of process 1, a guest in the group of process 0: its flags, the sizes, what it answers,
-/// how many are then in that group, and how many pids and Rendez are left.
+/// A call of process 1, a guest in the group of process 0: its flags, the sizes, its answer, how
+/// many are then in that group, and how many pids and Rendez are left.
 type Row = (u32, Sizes, Came, u64, (u64, u64));
 
 const CALLER: Spot = Spot { pid: 1, rendez: 0 };
@@ -54,7 +54,7 @@ const ALL: Sizes = Sizes {
     guests: 2,
 };
 
-/// One of the three is not.
+/// One of the three is not left.
 const NO_PID: Sizes = Sizes { procs: 2, ..ALL };
 
 const NO_ROW: Sizes = Sizes { rendez: 3, ..ALL };
@@ -210,7 +210,7 @@ fn came_in<'k, R: Wait + Abort>(
     forks(rt, alloc, &mut started.roster, guest, flags)
 }
 
-/// What a call answered, how many are in the group of process 0, and what is left.
+/// The answer of a call, how many are in the group of process 0, and what is left.
 type Played = (Came, Result<u64, Fault>, (u64, u64));
 
 fn played_by<'k, R: Wait + Abort>(

@@ -1,5 +1,5 @@
 //! Eight processes that meet at random tags, every other time until a moment, while a ninth ticks
-//! and posts notes at random. Each exchange is told by both sides, each once, with the other's
+//! and posts notes at random. Both sides of each exchange report it, once each, with the other's
 //! value. After all that each meets its neighbour: nothing that was late reaches that wait.
 use crate::dice::{Dice, seed_of};
 use crate::kernels::{forked, kernel_of, push};
@@ -21,13 +21,13 @@ const TAGS: u64 = 4;
 /// How many meetings there are, at least.
 const MEETINGS: u64 = 2_000;
 
-/// The number of the last call of each, which has no deadline and is after all others.
+/// The number of the last call of each process, which has no deadline and comes after all others.
 const LAST: u64 = 1 << 38;
 
 /// How many moments a call with a deadline waits.
 const MOMENTS: u32 = 8;
 
-/// What the callers and the poster tell each other, outside the hall.
+/// What the callers and the poster share outside the hall.
 #[derive(Drop)]
 struct Board {
     seed: u64,
@@ -47,8 +47,8 @@ struct Exchange {
     got: u64,
 }
 
-/// What came of a caller: its exchanges, and how many calls were ended by notes, by ticks, and
-/// refused.
+/// What came of a caller: its exchanges, and how many calls were ended by notes, ended by ticks,
+/// and refused.
 #[derive(Drop)]
 struct Work {
     exchanges: Vec<Exchange>,

@@ -1,6 +1,6 @@
-//! A caller of a space of two, from the contracts alone: of two members that call once each on
-//! threads of their own each is answered what the other gave, or neither is answered. And the
-//! example of rendezvous(2).
+//! A caller of a space of two, from the contracts alone: two members call once each, on threads of
+//! their own. Either each gets what the other gave, or neither gets a value. And the example of
+//! rendezvous(2).
 ghost use Rattle.std.specs.Prelude.{◌≡◌, [], IfOk, OnOk, IsOk};
 ghost use Rattle.sleep_wakeup.specs.Starts.{IsStartOf};
 ghost use Rattle.tag_space.specs.Members.{IsMemberOf, IsSameMember, OwnsRow};
@@ -27,7 +27,7 @@ pub struct Party<'k> {
     pub member: Member,
 }
 
-/// Two members that have called, and what they were answered.
+/// Two members that have called, and the answers that they got.
 #[derive(Drop)]
 struct Met<'k> {
     first: Party<'k>,

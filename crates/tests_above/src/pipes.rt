@@ -1,5 +1,5 @@
 //! Crowds at one direction of a pipe: writers and a reader, each on a thread of its own, with
-//! hangups and notes between. Each message is made of one byte: its writer and its number.
+//! hangups and notes between. Each message repeats one byte, which has its writer and its number.
 ghost use Rattle.std.specs.Prelude.{⊤};
 ghost use Rattle.pipe_dev.specs.Openings.{IsStartOf as IsPipeStart};
 
@@ -16,7 +16,7 @@ use std::sync::atomic::Ordering::SeqCst;
 use std::sync::atomic::{AtomicBool, AtomicU64};
 use std::thread::{self, Threads, yield_now};
 
-/// A pipe of this limit, with so many writers in each direction.
+/// A pipe of this limit, with this many writers in each direction.
 pub fn pipe_of<'p>(
     rt: &impl Abort,
     alloc: Global,
@@ -39,9 +39,9 @@ struct Plan {
     size: usize,
     /// How many messages each writer writes.
     writes: u64,
-    /// After so many of its messages the writer 0 hangs up.
+    /// After this many of its messages writer 0 hangs up.
     writer_hangs: u64,
-    /// After so many messages the reader hangs up.
+    /// After this many messages the reader hangs up.
     reader_hangs: u64,
     /// Whether another process posts notes to them.
     notes: bool,
@@ -55,24 +55,24 @@ enum Job<'p, 'k> {
     Post(Proc<'k>),
 }
 
-/// What came of a thread, or of all.
+/// What came of a thread, or of all threads.
 #[derive(Clone, Copy)]
 struct Tally {
     /// How many messages were read, and how many were accepted.
     read: u64,
     wrote: u64,
-    /// How many of each writer. Messages of no bytes do not say whose they are.
+    /// How many messages of each writer. Messages of no bytes do not say whose they are.
     read_of: [u64; 64],
     wrote_of: [u64; 64],
     /// How many calls a note ended, which then took and gave nothing and were made again.
     noted: u64,
     /// How many notes were posted.
     posted: u64,
-    /// Whether nothing came that may not come.
+    /// Whether nothing came that must not come.
     good: bool,
 }
 
-/// What the threads tell each other, outside the pipe.
+/// What the threads share outside the pipe.
 #[derive(Drop)]
 struct Board {
     /// How many writers have ended.

@@ -16,7 +16,7 @@ const WAKERS: u64 = 3;
 const LEVELS: u64 = 2_000;
 
 /// A process of the crowd, the wakers first. They begin first, so that where a thread can't be
-/// started those that run still end.
+/// started the threads that run still end.
 #[derive(Drop)]
 struct Job<'k> {
     proc: Proc<'k>,

@@ -1,5 +1,5 @@
-//! The example of the manual page of pipes, line for line, what std's calls make of a reader and a
-//! writer, and two that read from one end on threads of their own.
+//! The example of the manual page of pipes, line for line; what std's calls make of a reader and a
+//! writer; and two readers of one end, on threads of their own.
 use crate::kernels::{forked, kernel_of};
 use crate::pipes::pipe_of;
 use plan9::{
@@ -54,7 +54,7 @@ fn write_after_the_hangup<R: Wait + Abort>(rt: &R, to: &mut WriteStream<'_, '_, 
     assert_eq!(rt; to.fault, Some(Fault::Hungup));
 }
 
-/// A reader and the one writer of a direction.
+/// A reader and the only writer of a direction.
 #[derive(Drop)]
 struct Pair<'p, 'k> {
     reader: ReadEnd<'p>,

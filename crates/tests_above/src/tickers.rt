@@ -14,7 +14,7 @@ use std::sync::atomic::Ordering::SeqCst;
 use std::thread::{Threads, scope, scope_env};
 use std::time::{Clock as SystemClock, Duration};
 
-/// Moments one after the other. At the third its process posts a note.
+/// Moments one after the other. At the third, its process posts a note.
 #[derive(Drop)]
 struct Third<'k> {
     proc: Proc<'k>,
@@ -60,7 +60,8 @@ fn a_beat_comes_after_a_millisecond(rt: HostRuntime) {
     assert!(rt; beat.next() >= 2);
 }
 
-/// A clock that goes on in sleeps alone: each takes what it was asked for, and so much longer.
+/// A clock that goes on in sleeps alone: each sleep takes the time that was asked for, and `longer`
+/// more.
 #[derive(Drop)]
 struct Hands {
     micros: AtomicU64,

@@ -1,6 +1,7 @@
-//! Writers, a reader and sleepers that wait until a moment, while another ticks and posts notes.
-//! What a moment or a note ended has taken and given nothing, and is asked for again. After all
-//! that each sleeps once more, with no deadline: nothing that was late reaches that sleep.
+//! Writers, a reader and sleepers that wait until a moment, while another process ticks and posts
+//! notes. A call that a moment or a note ended has taken and given nothing, and is made again.
+//! After all that each sleeps once more, with no deadline: nothing that was late reaches that
+//! sleep.
 ghost use Rattle.std.specs.Prelude.{⊤};
 
 use crate::dice::{Dice, seed_of};
@@ -19,7 +20,7 @@ use std::thread::{self, Threads, join, yield_now};
 
 const WRITERS: u64 = 3;
 
-/// How many messages each writer writes, of so many bytes.
+/// How many messages each writer writes, and how many bytes each message has.
 const MESSAGES: u64 = 400;
 
 const SIZE: usize = 8;
@@ -32,18 +33,18 @@ const SLEEPERS: u64 = 4;
 /// How high the level of each sleeper is raised, one by one, but for the last sleep.
 const LEVELS: u64 = 1_000;
 
-/// What the crowd tell each other, outside the kernel.
+/// What the crowd share outside the kernel.
 #[derive(Drop)]
 struct Board {
     seed: u64,
-    /// The first of the Rendez in which they sleep, one each.
+    /// The first of the Rendez in which they sleep, each in one of its own.
     own: u64,
     /// The moment of the last tick.
     now: AtomicU64,
     /// How many notes were posted, and how many waits the ticks have ended.
     posted: AtomicU64,
     expired: AtomicU64,
-    /// How many were stopped by a moment and by a note.
+    /// How many calls a moment stopped, and how many a note.
     hindered: AtomicU64,
     /// How many writers have written all.
     written: AtomicU64,
@@ -51,7 +52,7 @@ struct Board {
     ended: AtomicU64,
     quiet: AtomicU64,
     settled: AtomicU64,
-    /// How many calls were answered as none may be. Nobody goes on then.
+    /// How many calls got an answer that no call may get. Nobody goes on then.
     wrong: AtomicU64,
 }
 
@@ -125,7 +126,8 @@ struct Job<'p, 't, 'k> {
     number: u64,
 }
 
-/// What came of a process: how many calls went well, and how many a moment and notes ended.
+/// What came of a process: how many calls went well, and how many were ended by a moment and by
+/// notes.
 #[derive(Clone, Copy, Debug, PartialEq, Eq)]
 struct Work {
     good: u64,
@@ -201,7 +203,7 @@ fn hang_up<R: Wait>(rt: &R, writer: &mut Writer<'_, '_>, board: &Board) {
     }
 }
 
-/// What was read: how many messages of each writer, and so many bytes of one more.
+/// What was read: how many messages of each writer, and how many bytes of one more.
 #[derive(Clone, Copy)]
 struct Account {
     messages: [u64; WRITERS as usize],

@@ -1,23 +1,23 @@
-//! Several units at once, for callers that take turns at it: all of them come, or none is kept.
+//! Several units at once, for callers that take turns: a caller gets all of them, or keeps none.
 use plan9::{Fault, Holder, Kernel, Note, NoteSet, OpenedKernel, Pool, Started, fork};
 use std::alloc::Global;
 use std::sync::Wait;
 
-/// A process at the units, and one that takes its turn.
+/// A process at the units, and a process that takes its turn.
 #[derive(Drop)]
 struct Caller<'s, 'k> {
     turn: Holder<'s, 'k>,
     units: Holder<'s, 'k>,
 }
 
-/// Takes so many units, in its turn, and gives the turn back whatever came of it.
+/// Takes `count` units, in its turn, and gives the turn back whatever the result is.
 fn acquire_all<R: Wait>(rt: &R, me: &mut Caller<'_, '_>, count: u32) -> Result<(), Fault> {
     me.turn.acquire(rt)?;
     let got = acquire_each(rt, &mut me.units, count);
     me.turn.release(rt, 1).and(got)
 }
 
-/// One unit after another. Where one is refused, those before it are given back.
+/// Takes one unit after another. Where a unit is refused, the units before it are given back.
 fn acquire_each<R: Wait>(rt: &R, units: &mut Holder<'_, '_>, count: u32) -> Result<(), Fault> {
     for taken in 0..count {
         if let Err(fault) = units.acquire(rt) {
@@ -28,7 +28,7 @@ fn acquire_each<R: Wait>(rt: &R, units: &mut Holder<'_, '_>, count: u32) -> Resu
     Ok(())
 }
 
-/// What came of it: the answer, and how many units and turns there are now.
+/// The result: the answer, and how many units and turns there are now.
 type Came = (Result<(), Fault>, Result<u32, Fault>, Result<u32, Fault>);
 
 fn come_of<R: Wait>(rt: &R, me: &mut Caller<'_, '_>, count: u32) -> Came {
@@ -36,7 +36,7 @@ fn come_of<R: Wait>(rt: &R, me: &mut Caller<'_, '_>, count: u32) -> Came {
     (got, me.units.release(rt, 0), me.turn.release(rt, 0))
 }
 
-/// Two units of three, and then two of the one that is left, with a note that is pending.
+/// Takes two units of three, and then two where one is left, with a note that is pending.
 fn take_twice<R: Wait>(rt: &R, me: &mut Caller<'_, '_>) -> Result<[Came; 2], Fault> {
     let first = come_of(rt, me, 2);
     let pid = me.units.pid();

@@ -1,5 +1,5 @@
 //! Scripts on streams that fail as those of the system can't: with each kind of error, also in a
-//! flush. `tests/programs/devices` tries what the system can do, on the program.
+//! flush. `tests/programs/devices` tries on the program what the system can do.
 use scripts::device::write_whole;
 use scripts::{run_pipe, run_replay};
 use std::alloc::Global;
@@ -15,8 +15,8 @@ enum Call {
     Flush,
 }
 
-/// What is played, and which calls fail: from the first on, counted from 1, so many in a row. One
-/// gives at most 20 bytes, or takes at most so many.
+/// What is played, and which calls fail: `times` calls in a row, from the one with the number
+/// `first` on, counted from 1. A read gives at most 20 bytes, a write takes at most `takes`.
 #[derive(Clone, Copy)]
 struct Run<'a> {
     text: &'a [u8],
@@ -25,7 +25,7 @@ struct Run<'a> {
     first: usize,
     times: usize,
     kind: ErrorKind,
-    /// The write that takes nothing, counted from 1; 0 where each takes some.
+    /// The write that takes nothing, counted from 1; 0 where each write takes some bytes.
     nothing_at: usize,
 }
 
@@ -69,7 +69,7 @@ impl Read for Reader<'_> {
     }
 }
 
-/// Holds what it took.
+/// Keeps what it took.
 #[derive(Drop)]
 struct Writer<'a> {
     run: Run<'a>,

@@ -1,10 +1,9 @@
-//! Tests of the layers below processes by their public calls, above all of them, so that none is
-//! proved once more for its tests.
-//! Read `plain`, a pipe for one thread; `worlds`, the machine of sleep and wakeup; `words`, the
-//! same on shared words; `locks` and `rooms`, objects under a lock; `rings`, who plays calls at a
-//! queue of blocks, with `ring_rows` and `lone_rings`; `spaces`, where calls meet by tags; `units`
-//! and `timers`, of semaphores; `devices`, scripts on streams that fail; and `sizes`, what no
-//! program makes at each size.
+//! Tests of the layers below processes by their public calls, above all these layers, so that no
+//! layer is proved once more for its tests. Read `plain`, a pipe for one thread; `worlds`, the
+//! machine of sleep and wakeup; `words`, the same on shared words; `locks` and `rooms`, objects
+//! under a lock; `rings`, which plays calls at a queue of blocks, with `ring_rows` and
+//! `lone_rings`; `spaces`, where calls meet by tags; `units` and `timers`, of semaphores;
+//! `devices`, scripts on streams that fail; and `sizes`, what no program makes at each size.
 #![tactic(auto)]
 
 #[cfg(test)]

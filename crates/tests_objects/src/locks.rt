@@ -54,7 +54,7 @@ pub fn lock_of<O: Object>(rt: &impl Abort, alloc: Global, object: O, seats: u64)
     }
 }
 
-/// Whether all of them are.
+/// Whether all answers are true.
 pub fn are_all(answers: &[bool]) -> bool {
     for is_so in answers.iter() {
         if !*is_so {
@@ -64,7 +64,7 @@ pub fn are_all(answers: &[bool]) -> bool {
     true
 }
 
-/// So many further seats of a lock.
+/// This many further seats of a lock.
 pub fn seats_of<O: Object, R: Wait + Abort>(
     rt: &R,
     alloc: Global,

@@ -34,13 +34,13 @@ enum Deed {
     /// A take whose block's memory is given back.
     TakesBack(Reply),
     HangsUp,
-    /// The memory that its writer keeps has room for so many bytes.
+    /// The memory that its writer keeps has room for this many bytes.
     HasRoom(usize),
 }
 
 use Deed::{HangsUp, HasRoom, Puts, Takes, TakesBack};
 
-/// What is left of it at last: whether it was hung up, and each block that stands.
+/// What is left of it at last: whether it was hung up, and each block that is left.
 #[derive(Clone, Copy)]
 struct Left {
     hung: bool,

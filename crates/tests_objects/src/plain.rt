@@ -1,4 +1,4 @@
-//! Printed texts, and what a plain pipe that was refused memory holds.
+//! Printed texts, and what a plain pipe holds that was refused memory.
 use std::alloc::Global;
 use std::process::Abort;
 use sync_base::{Fault, Mode, NoteSet, PlainPipe, ReadAnswer, WriteAnswer};
@@ -46,7 +46,7 @@ fn made(alloc: Global, mode: Mode, limit: u64) -> Result<PlainPipe, Fault> {
     }
 }
 
-/// A pipe, asked for once more where memory is refused.
+/// A pipe. It is asked for once more where memory is refused.
 fn pipe_of(rt: &impl Abort, alloc: Global, mode: Mode, limit: u64) -> PlainPipe {
     let pipe = match made(alloc, mode, limit) {
         Err(Fault::Memory) => made(alloc, mode, limit),

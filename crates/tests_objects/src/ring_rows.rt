@@ -9,7 +9,7 @@ use sync_base::limits::LAST_WRITE;
 
 // ---- puts
 
-/// A put of the writer 0, and one of the writer 1.
+/// A put of writer 0, and a put of writer 1.
 const PUT: Call = Put(0, b"");
 
 const OTHER: Call = Put(1, b"");
@@ -226,7 +226,7 @@ fn a_put_finds_its_numbers_worn_at_its_first_step(rt: HostRuntime) {
 
 // ---- takes
 
-/// The points of a take that finds no block, and of one that takes a block out.
+/// The points of a take that finds no block, and of a take that takes a block out.
 const EMPTY: &[u64] = &[1, 2];
 
 const OUT: &[u64] = &[1, 2, 3, 4];

@@ -1,7 +1,7 @@
-//! A queue of blocks and its seats, and who plays calls of them: whether each is answered as it is
-//! to be, passes the points that it is to pass, and so do calls of other seats at one of them. What
-//! these are told, and which way the call then goes, tells which steps were made before. Where
-//! memory is refused it is asked for once more.
+//! A queue of blocks and its seats, and a player of their calls: whether each call gets the answer
+//! that it should, passes the points that it should, and so do calls of other seats at one of the
+//! points. The answers of these calls, and the way that the call then takes, show which steps were
+//! made before. Where memory is refused it is asked for once more.
 ghost use Rattle.std.specs.Prelude.{IfOk};
 ghost use Rattle.std.specs.List.{AllByRecursion};
 ghost use Rattle.block_queue.specs.Gather.{AreAllSeats};
@@ -14,7 +14,7 @@ use std::process::Abort;
 use std::sync::Wait;
 use sync_base::{Fault, Piece, Probe};
 
-/// A call of one of the seats: of the writer 0 or 1, or of the reader.
+/// A call of one of the seats: of writer 0 or 1, or of the reader.
 #[derive(Clone, Copy)]
 pub enum Call {
     /// A block of these bytes.
@@ -24,7 +24,7 @@ pub enum Call {
     HangTake,
 }
 
-/// What a call is answered.
+/// The answer to a call.
 #[derive(Clone, Copy)]
 pub enum Reply {
     /// The number of the block.
@@ -79,7 +79,7 @@ pub fn block_of(alloc: Global, bytes: &[u8]) -> Option<Piece> {
     }
 }
 
-/// Whether a put of these bytes was answered so.
+/// Whether a put of these bytes got this answer.
 pub fn is_put(answer: &PutAnswer, bytes: &[u8], wanted: Reply) -> bool {
     match (answer, wanted) {
         (PutAnswer::Taken(number), Taken(count)) => *number == count,
@@ -90,7 +90,7 @@ pub fn is_put(answer: &PutAnswer, bytes: &[u8], wanted: Reply) -> bool {
     }
 }
 
-/// Whether a take was answered so.
+/// Whether a take got this answer.
 pub fn is_take(answer: &TakeAnswer, wanted: Reply) -> bool {
     match (answer, wanted) {
         (TakeAnswer::Block(block, by, number), Block(writer, count, bytes)) => {
@@ -193,7 +193,7 @@ pub struct Seats<'q> {
 }
 
 impl<'q> Seats<'q> {
-    /// A call, at whose points nothing is called. Whether it was answered so.
+    /// Makes a call, and none at its points. Returns whether it got its answer.
     pub fn call<R: Wait>(&mut self, rt: &R, alloc: Global, call: Call, wanted: Reply) -> bool {
         match call {
             Put(0, bytes) => puts(rt, alloc, &mut self.first, bytes, wanted),
@@ -204,8 +204,8 @@ impl<'q> Seats<'q> {
         }
     }
 
-    /// A call of the writer 0 or of the reader, at whose points these are called. Whether all were
-    /// answered so, and just these points were passed.
+    /// Makes a call of writer 0 or of the reader, and these calls at its points. Returns whether
+    /// all got their answers, and just these points were passed.
     pub fn probed<R: Wait>(
         &mut self,
         rt: &R,
@@ -262,10 +262,10 @@ impl<'q> Seats<'q> {
     }
 }
 
-/// No call here passes as many points.
+/// Each call here passes fewer points.
 const MOST: usize = 12;
 
-/// The points that a call has passed, and how the calls at them went.
+/// The points that a call has passed, and the answers to the calls at them.
 #[derive(Drop)]
 struct Points<'s, 'q, 'r, R: Wait> {
     rt: &'r R,

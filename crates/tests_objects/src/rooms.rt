@@ -1,5 +1,5 @@
-//! Threads that sleep before the lock of a room, whose calls stay inside until they do, and are
-//! woken.
+//! Threads that sleep before the lock of a room, and are woken. The calls in the room stay inside
+//! until the others sleep.
 ghost use Rattle.std.specs.Prelude.{ℕ, ◌+◌, ◌%◌, ◌^◌, None, All};
 ghost use Rattle.kernel_lock.specs.Seats.{IsSeatOf};
 
@@ -13,7 +13,7 @@ use std::sync::atomic::Ordering::SeqCst;
 use std::sync::{Arc, Wait};
 use std::thread::{self, Threads, yield_now};
 
-/// How often a call looks who is outside, so that it ends in any case.
+/// How often a call looks which threads are outside, so that it ends in any case.
 const LOOKS: u64 = 1_000_000;
 
 /// How long a call stays after that: many times as long as a thread looks before it sleeps.
@@ -22,7 +22,7 @@ const STAY: u64 = 100_000;
 /// How often threads are put to sleep and woken.
 const ROUNDS: u64 = 20;
 
-/// How the threads in the room and before it tell of themselves.
+/// How the threads in the room and before it signal to each other.
 #[derive(Drop)]
 struct Door {
     inside: AtomicU64,
@@ -56,7 +56,7 @@ impl Door {
     }
 }
 
-/// A call names how many threads are to sleep before the room, and answers how many calls were
+/// A call names how many threads are to sleep before the room, and returns how many calls were
 /// made.
 #[derive(Drop)]
 struct Room {
@@ -91,11 +91,11 @@ impl Object for Room {
     }
 }
 
-/// How often a thread calls that does not stay.
+/// How often a thread makes a call that does not stay.
 const CALLS: u64 = 2_000;
 
-/// What a thread does: it stays in the room until so many others sleep before it; or it is one of
-/// those, or else none. Then it makes so many calls that do not stay.
+/// What a thread does: it stays in the room until `others` other threads sleep before it; or it is
+/// one of those threads, or neither. Then it makes `calls` calls that do not stay.
 #[derive(Clone, Copy)]
 struct Part {
     others: u64,

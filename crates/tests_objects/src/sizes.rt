@@ -1,5 +1,5 @@
 //! What no program makes, once at each size of its range: runs of events, objects of queues, and
-//! the ends of pipes that are given back. With all memory none may answer that there is none.
+//! the ends of pipes that are given back. While there is memory, none of these may be refused it.
 use block_queue::QueueObject;
 use pipe_dev::{Ends, Opened as OpenedPipe, Pipe, finish};
 use sleep_core::{Event, World};

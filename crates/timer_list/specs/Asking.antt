@@ -14,8 +14,8 @@ use Rattle.timer_list.specs.Timers.{may_add, timer_of}
 use Rattle.timer_list.specs.Timers as timing
 
 module _ (timers : Timers) (set : Bool) (call : TimerCall) (answer : TimerReply) where
-  -- The seat asked this under its own number and was told so, which stands in one legal history;
-  -- and this says whether its timer is set now, or expired and not cancelled.
+  -- The seat asked this under its own number and got this answer, both in one legal history; and
+  -- `set` says whether its timer is set now, or expired and not cancelled.
   pub record AsksTimers (before after : TimerSeat) : Type 0 where
     pub served : Serves (record { by = number_of before.seat; request = call; reply = answer })
         (view_of before.seat) (view_of after.seat)
@@ -29,13 +29,13 @@ abbrev pub cancel_reply : Bool → TimerReply
 cancel_reply true = told.Expired
 cancel_reply false = told.Removed
 
--- the process of a timer that expired now, where one did
+-- the process of a timer that expired now, where a timer did
 abbrev pub expire_reply : Option Pid → TimerReply
 expire_reply (Some pid) = told.Ended pid
 expire_reply None = told.NoneDue
 
--- What a request of a seat finds: a state that the timers can be in, in which that of the seat is
--- as its own calls say, and of which the reply is the answer.
+-- What a request of a seat finds: a state that the timers can be in, in which the seat's timer is
+-- as its own calls say, and from which this answer follows.
 pub record IsTimed (procs number : ℕ) (set : Bool) (call : TimerCall) (answer : TimerReply) :
     Type 0 where
   pub state : List Timer

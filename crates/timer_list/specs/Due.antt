@@ -9,13 +9,13 @@ is_before one other =
     nat_lt one.deadline other.deadline
     || (one.deadline == other.deadline && nat_lt one.seat other.seat)
 
--- the one of two that expires first, where there is one
+-- the timer of the two that expires first, where there is one
 abbrev pub earlier_of : Option Due → Option Due → Option Due
 earlier_of None second = second
 earlier_of (Some one) None = Some one
 earlier_of (Some one) (Some other) = if is_before other one then Some other else Some one
 
--- the one of all that expires first, where there is one
+-- the timer of all that expires first, where there is one
 abbrev pub earliest : List (Option Due) → Option Due
 earliest [] = None
 earliest (due ∷ dues) = earlier_of due (earliest dues)

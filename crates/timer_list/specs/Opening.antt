@@ -8,7 +8,7 @@ use Rattle.timer_list.specs.declared.timer_object.TimerCall.{TimerCall}
 use Rattle.timer_list.specs.declared.timer_object.TimerReply.{TimerReply}
 use Rattle.timer_list.specs.Definitions.{timer_definition}
 
--- the lock stands round timers for so many processes, each with a seat
+-- the lock guards timers for this many processes, each with a seat
 pub record IsTimerLock (lock : Locked (List Timer) TimerCall TimerReply) (procs : ℕ) : Type 0 where
   pub opening_is : opening_of timer_definition lock ≡ replicate procs Unset
   pub limit : limit_of lock ≡ procs

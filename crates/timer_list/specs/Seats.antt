@@ -7,8 +7,8 @@ use Rattle.timer_list.specs.Definitions.{timer_definition}
 use Rattle.timer_list.specs.Opening.{IsTimerLock}
 use Rattle.timer_list.specs.TimerHistory.{TimerEntry, has_timer}
 
--- the seat is one of the timers' and has one number; it has seen a legal history, with its own
--- calls in it once each; and this says whether its timer is set, or expired and not cancelled
+-- the seat is one of the timers' and has one number; it has seen a legal history, with each of its
+-- own calls in it once; and `set` says whether its timer is set, or expired and not cancelled
 pub record IsSeatAtTimers (timers : Timers) (set : Bool) (seat : TimerSeat) : Type 0 where
   pub opened : IsTimerLock timers.lock timers.procs
   pub seat_is : IsSeatOf timers.lock seat.seat
@@ -21,7 +21,7 @@ pub record IsSeatAtTimers (timers : Timers) (set : Bool) (seat : TimerSeat) : Ty
 abbrev pub IsTimerSeatOf : Timers → TimerSeat → Type 0
 IsTimerSeatOf timers seat = IsSeatAtTimers timers false seat
 
--- new timers for so many processes, none of which is set, and their first seat
+-- new timers for this many processes, none of which is set, and their first seat
 pub record AreNewTimers (procs : ℕ) (timers : Timers) (seat : TimerSeat) : Type 0 where
   pub procs_are : timers.procs ≡ procs
   pub seat_is : IsTimerSeatOf timers seat

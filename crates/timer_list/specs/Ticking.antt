@@ -17,13 +17,13 @@ pub record Tells (kernel : ℕ) (pid : Pid) (before after : Process) : Type 0 wh
   pub told : IsTrue (nat_lt pid.0 kernel) → after ≡ notes before pid (only Expired)
   pub other : nat_lt pid.0 kernel ≡ false → after ≡ before
 
--- it was told that nothing is due
+-- the answer was that no timer is due
 pub record FindsNone (timers : Timers) (now : ℕ) (before after : Point TimerSeat) : Type 0 where
   pub asks : AsksTimers timers false (Expire now) told.NoneDue before.seat after.seat
   pub idle : after.process ≡ before.process
 
 module _ (timers : Timers) (kernel now : ℕ) where
-  -- one timer more expired at this moment, and just after that its process was told
+  -- one more timer expired at this moment, and right after that the note was posted to its process
   pub record ExpiresOneMore (Before : Point TimerSeat → Type 0) (pid : Pid)
       (after : Point TimerSeat) : Type 0 where
     pub between : Point TimerSeat
@@ -31,13 +31,13 @@ module _ (timers : Timers) (kernel now : ℕ) where
     pub ended : AsksTimers timers false (Expire now) (told.Ended pid) between.seat after.seat
     pub tells : Tells kernel pid between.process after.process
 
-  -- those of these processes, the newest first
+  -- the timers of these processes expired, the newest first
   abbrev pub Expires : List Pid → Point TimerSeat → Point TimerSeat → Type 0
   Expires [] before after = after ≡ before
   Expires (pid ∷ others) before after = ExpiresOneMore (Expires others before) pid after
 
-  -- A tick at this moment, in a kernel of so many processes: so many timers expired, until nothing
-  -- was due or as many had as there are.
+  -- A tick at this moment, in a kernel of `kernel` processes: `count` timers expired, until no
+  -- timer was due or as many had expired as there are.
   pub record Ticks (count : ℕ) (before after : Point TimerSeat) : Type 0 where
     pub ended : List Pid
     pub last : Point TimerSeat

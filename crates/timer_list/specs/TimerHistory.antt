@@ -13,14 +13,14 @@ use Rattle.timer_list.specs.declared.timer_object.TimerReply.TheVariants as told
 use Rattle.timer_list.specs.Definitions.{timer_definition}
 use Rattle.timer_list.specs.Timers.{first_due}
 
--- one call: the number of the seat that made it, and what it was answered
+-- one call: the number of the seat that made it, and its answer
 abbrev pub TimerEntry : Type 0
 TimerEntry = Operation TimerCall TimerReply
 
 abbrev pub timer_meaning : Meaning (List Timer) TimerEntry
 timer_meaning = meaning_of timer_definition
 
--- whether the seat has a timer that was not cancelled, after a call of it that was answered so
+-- whether the seat has a timer that was not cancelled, after a call of it that got this answer
 abbrev pub sets_after : TimerCall → TimerReply → Bool → Bool
 sets_after (Add seat pid deadline) told.Added before = true
 sets_after (Cancel seat) told.Removed before = false
@@ -36,8 +36,8 @@ has_timer (entry ∷ past) = sets_after entry.request entry.reply (has_timer pas
 abbrev pub AreByOthersThan : ℕ → List TimerEntry → Type 0
 AreByOthersThan seat entries = AllByRecursion (λ entry. entry.by ≢ seat) entries
 
--- A tick took the timer that the seat has just cancelled: since it set it to this deadline, an
--- Expire at the deadline or later found it the first that was due.
+-- A tick took the timer that the seat has just cancelled: since the seat set it to this deadline,
+-- an Expire at the deadline or later found it the first timer that was due.
 pub record WasTaken (opening : List Timer) (seat deadline : ℕ) (history : List TimerEntry) :
     Type 0 where
   pub cancelled : TimerEntry

@@ -7,7 +7,7 @@ use Rattle.timer_list.specs.declared.timer_object.TimerCall.TheVariants.{Add, Ca
 use Rattle.timer_list.specs.declared.timer_object.TimerReply.TheVariants as told
 use Rattle.timer_list.specs.TimerHistory.{TimerEntry, timer_meaning, AreByOthersThan, WasTaken}
 
--- the seat set its timer, others called, and the seat was told that it had expired
+-- the seat set its timer, others called, and the seat got the answer that it had expired
 pub record IsTaken (opening : List Timer) (seat deadline : ℕ) (pid : Pid)
     (since past : List TimerEntry) (added cancelled : TimerEntry) : Type 0 where
   pub legal : IsLegal timer_meaning opening (cancelled ∷ (since ++ (added ∷ past)))

@@ -1,5 +1,5 @@
--- Timers, one for each seat. After tsemacquire in semacquire(2), which waits no longer than so many
--- milliseconds; that a tick tells the moment, and the order at one moment, are own.
+-- Timers, one for each seat. After tsemacquire in semacquire(2), which waits no longer than its
+-- milliseconds. Own: a tick says which moment it is, and the order of timers at one moment.
 use Rattle.std.specs.Prelude.{ℕ, ◌+◌, ◌-◌, ◌^◌, min, nat_lt, nat_le, Bool, true, false}
 use Rattle.std.specs.Prelude.{if◌then◌else◌, List, [], ◌∷◌, length, map, slice_set, slice_index_or}
 use Rattle.std.specs.Prelude.{Option, None, Some}
@@ -25,17 +25,17 @@ due_of seat (Set pid deadline) = Some (record { deadline = deadline; seat = seat
 due_of seat Unset = None
 due_of seat Expired = None
 
--- when each timer expires, of the seats from this one on
+-- when each timer expires, for the seats from this seat on
 abbrev pub dues_from : ℕ → List Timer → List (Option Due)
 dues_from seat [] = []
 dues_from seat (timer ∷ timers) = due_of seat timer ∷ dues_from (seat + 1) timers
 
--- one whose moment is come
+-- the timer, if its moment has come
 abbrev pub if_come : ℕ → Option Due → Option Due
 if_come now (Some due) = if nat_le due.deadline now then Some due else None
 if_come now None = None
 
--- the one that expires first of those whose moment is come
+-- the timer that expires first, of those whose moment has come
 abbrev pub first_due : ℕ → List Timer → Option Due
 first_due now timers = earliest (map (if_come now) (dues_from 0 timers))
 
@@ -48,13 +48,13 @@ may_add Expired = false
 abbrev pub is_seat : List Timer → ℕ → Bool
 is_seat timers seat = nat_lt seat (length timers)
 
--- who is told that this timer expired
+-- the answer where this timer expired: its process
 abbrev pub answer_expired : Timer → TimerReply
 answer_expired (Set pid deadline) = reply.Ended pid
 answer_expired Unset = reply.NoneDue
 answer_expired Expired = reply.NoneDue
 
--- what became of a timer that is cancelled
+-- the answer where this timer is cancelled
 abbrev pub answer_cancelled : Timer → TimerReply
 answer_cancelled (Set pid deadline) = reply.Removed
 answer_cancelled Expired = reply.Expired
@@ -77,7 +77,7 @@ abbrev pub after_first : List Timer → Option Due → List Timer
 after_first timers (Some due) = slice_set timers due.seat Expired
 after_first timers None = timers
 
--- the timers after a call that was answered so: all else stays
+-- the timers after a call that got this answer: all else stays
 abbrev pub timers_after : List Timer → TimerCall → TimerReply → List Timer
 timers_after timers (Add seat pid deadline) reply.Added = slice_set timers seat (Set pid deadline)
 timers_after timers (Expire now) (reply.Ended pid) = after_first timers (first_due now timers)
@@ -95,11 +95,11 @@ seat_named (Add seat pid deadline) = Some seat
 seat_named (Expire now) = None
 seat_named (Cancel seat) = Some seat
 
--- Own: the moment so many milliseconds after now, and at most the last one.
+-- Own: the moment that many milliseconds after now, and at most the last moment.
 abbrev pub deadline_of : ℕ → ℕ → ℕ
 deadline_of now ms = min (now + ms) (2 ^ 64 - 1)
 
--- Own: why there are no timers for so many processes.
+-- Own: why there are no timers for this many processes.
 abbrev pub WhyNoTimers : ℕ → Fault → Type 0
 WhyNoTimers procs fault.NoProc = ¬ IsProcCount procs
 WhyNoTimers procs fault.Memory = IsProcCount procs

@@ -1,8 +1,7 @@
 -- What a call with a deadline does: the wait of all devices, and one timer, set and cancelled.
--- After tsemacquire in semacquire(2) and tsleep of the kernel; the ticks, that a call waits for the
--- note of a tick that took its timer, and which notes are put back, are own. The steps of a process
--- and the requests at its timers are two histories: which step comes before which request is not
--- said.
+-- After tsemacquire in semacquire(2) and tsleep of the kernel. Own: the ticks, the wait for the
+-- note of a tick that took the timer, and which notes are put back. The steps of a process and the
+-- requests at its timers are two histories: nothing says which step comes before which request.
 use Rattle.std.specs.Prelude.{◌≡◌, ◌≢◌, ◌⊎◌, ℕ, zero, suc, Bool, true, false, Some, None}
 use Rattle.std.specs.Prelude.{Result, Ok, Err}
 use Rattle.kernel_lock.specs.Seats.{number_of, opening_of, seen_of}
@@ -43,8 +42,8 @@ abbrev pub notes_of : {Out : Type 0} → WaitEnd Out → NoteSet
 notes_of (Answered answer) = no_notes
 notes_of (Stopped why out) = notes_in why
 
--- these notes came: it slept with the last threshold, which a hangup alone passes; or another
--- process sleeps there, and it took them without a sleep
+-- these notes came: it slept with the last threshold, above which only a hangup's level is; or
+-- another process sleeps there, and it took the notes without a sleep
 abbrev pub LooksForTick : RendezId → Process → NoteSet → Process → Type 0
 LooksForTick rendez before set after =
     Sleeps before rendez LAST_THRESHOLD set after
@@ -58,7 +57,7 @@ pub record Awaiting : Type 0 where
 abbrev pub awaiting : Running → NoteSet → Awaiting
 awaiting proc set = record { process = proc.process; notes = set }
 
--- it looked once more: a tick took its timer, and the note of that tick was to come
+-- it looked once more: a tick took its timer, and the note of that tick had yet to come
 pub record LooksAgain (rendez : RendezId) (expired : Bool) (Before : Awaiting → Type 0)
     (now : Awaiting) : Type 0 where
   pub between : Awaiting
@@ -93,15 +92,15 @@ PutsBackAny set before after =
 
 module _ {Out : Type 0} (expired : Bool) (others : NoteSet) where
   -- notes ended it: it timed out where a tick took its timer and no other note came, and else these
-  -- others are its answer
+  -- other notes are its answer
   abbrev pub IsEndedByNotes : Result Out Fault → Type 0
   IsEndedByNotes (Err fault.TimedOut) = (expired ≡ true) × (others ≡ no_notes)
   IsEndedByNotes (Err (fault.Interrupted set)) =
       (set ≡ others) × (expired ≡ true → set ≢ no_notes)
   IsEndedByNotes answer = ⊥
 
-  -- what it answers, and what becomes of the other notes that came: they are its answer, or else
-  -- they are put back
+  -- its answer, and what becomes of the other notes that came: they are its answer, or else they
+  -- are put back
   abbrev pub Keeps : WaitEnd Out → Result Out Fault → Process → Process → Type 0
   Keeps (Answered told) answer before after =
       (answer ≡ told) × PutsBackAny others before after
@@ -114,11 +113,11 @@ module _ {Out : Type 0} (expired : Bool) (others : NoteSet) where
 
 -- ---- the call
 
--- where a call with a deadline stands: its seats, and the steps of its process
+-- the state of a call with a deadline: its seats, and the steps of its process
 abbrev pub TimedPoint : Type 0 → Type 0
 TimedPoint Seat = RunPoint TimerSeat Seat
 
--- A call cancelled its timer; after its sleeps it awaited the note of a tick that had taken the
+-- A call cancelled its timer. After its sleeps it waited for the note of a tick that had taken the
 -- timer, and kept what came.
 pub record TimedEnd {Out : Type 0} (rendez : RendezId) (timers : Timers) (set : TimerSeat)
     (ending : WaitEnd Out) (slept : Process) (answer : Result Out Fault) (timer : TimerSeat)
@@ -127,7 +126,7 @@ pub record TimedEnd {Out : Type 0} (rendez : RendezId) (timers : Timers) (set : 
   pub expired : Bool
   pub cancelled : AsksTimers timers false (Cancel (number_of set.seat)) (cancel_reply expired)
       set timer
-  -- where that tick's note had come
+  -- the process when that tick's note had come
   pub awaited : Awaiting
   pub awaits : AwaitsTick rendez expired (record { process = slept; notes = notes_of ending })
       awaited
@@ -141,7 +140,7 @@ module _ {Seat Out : Type 0} (promise : Promise Seat Out) (rendez : RendezId) (t
     pub begun : promise.begun before.at (reply_of answer) after.at
     pub timer : after.timer ≡ before.timer
 
-  -- It was told to wait: it set its timer, once; it slept; and it ended so.
+  -- It had to wait: it set its timer, once; it slept; and it ended like this.
   pub record TimedWait (before : TimedPoint Seat) (answer : Result Out Fault)
       (after : TimedPoint Seat) : Type 0 where
     pub first : WaitPoint Seat
@@ -155,13 +154,13 @@ module _ {Seat Out : Type 0} (promise : Promise Seat Out) (rendez : RendezId) (t
     pub slept : SleepsOn promise rendez first ending
         (record { seat = after.at.seat; process = process })
     pub ended : TimedEnd rendez timers set ending process answer after.timer after.at.process
-    -- where a tick took its timer, that was at its deadline or later
+    -- where a tick took its timer, the tick came at its deadline or later
     pub taken : ended.expired ≡ true
         → WasTaken (opening_of timer_definition timers.lock) (number_of before.timer.seat)
         moment (seen_of after.timer.seat)
 
-  -- A call until this moment: it asked, and was answered at once, or was told to wait, and waited
-  -- with a timer.
+  -- A call until this moment: it asked, and was answered at once, or had to wait, and waited with a
+  -- timer.
   abbrev pub TimedCall : TimedPoint Seat → Result Out Fault → TimedPoint Seat → Type 0
   TimedCall before answer after =
       BegunAtOnce before answer after ⊎ TimedWait before answer after

@@ -32,8 +32,8 @@ abbrev pub telling : Process → Pid → Entry
 telling teller pid =
     record { maker = teller.pid; event = Note pid (only Expired); answer = Noted }
 
--- This process told that one of a tick, next after the steps that it had made, and since then the
--- note is pending, or that process took it.
+-- This process posted that process the note of a tick, right after the steps that it had made, and
+-- since then the note is pending, or that process took it.
 pub record IsToldSince (run : List Entry) (teller : Process) (pid : Pid) : Type 0 where
   pub since : List Entry
   pub past : List Entry
@@ -43,7 +43,7 @@ pub record IsToldSince (run : List Entry) (teller : Process) (pid : Pid) : Type 
       ⊎ HasTaken (history_of since) pid.0
 
 module _ (run : List Entry) (timers : Timers) (kernel now : ℕ) where
-  -- so is the process of each timer that this tick took, where its kernel has that process
+  -- this holds of the process of each timer that this tick took, where its kernel has that process
   abbrev pub AreToldSince : (ended : List Pid) (before after : Point TimerSeat)
       → Expires timers kernel now ended before after → Type 0
   AreToldSince [] before after none = ⊤
@@ -51,9 +51,9 @@ module _ (run : List Entry) (timers : Timers) (kernel now : ℕ) where
       (nat_lt pid.0 kernel ≡ true → IsToldSince run more.between.process pid)
       × AreToldSince others before more.between more.others
 
--- No note of a tick is lost: once the tick has returned, the note that it posted is pending at the
--- process of each timer that expired, where its kernel has that process, or that process took it
--- since it was posted.
+-- No note of a tick is lost. Once the tick has returned, for each timer that expired, the note that
+-- the tick posted is pending at the timer's process, where its kernel has that process, or that
+-- process has taken it since.
 abbrev pub TickingTellsEach : Type 0
 TickingTellsEach =
     (sizes : Sizes) (s : _) (shows : ShowsCore sizes s)

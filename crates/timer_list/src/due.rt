@@ -2,7 +2,7 @@
 ghost use Rattle.std.specs.Prelude.{◌≡◌, IsTrue, ◌↔◌};
 ghost use Rattle.timer_list.specs.Due.{is_before, earlier_of};
 
-/// A timer that may expire: whose it is, and from which moment on.
+/// A timer that may expire: its seat, and the moment from which on.
 #[derive(Clone, Copy, Debug, PartialEq, Eq)]
 pub struct Due {
     pub deadline: u64,
@@ -10,14 +10,15 @@ pub struct Due {
 }
 
 impl Due {
-    /// Whether this one expires first: the least deadline, and then the least seat.
+    /// Whether this timer expires before the other: the least deadline comes first, and then the
+    /// least seat.
     pub fn is_before(&self, other: &Due) -> bool
         ensures { result ≡ is_before self.now other.now }
     {
         self.deadline < other.deadline || self.deadline == other.deadline && self.seat < other.seat
     }
 
-    /// The one that expires first.
+    /// The timer of the two that expires first.
     pub fn earlier(first: Option<Due>, second: Option<Due>) -> Option<Due>
         ensures { result ≡ earlier_of first second }
     {

@@ -8,9 +8,9 @@ pub fn an_expired_timer_was_taken()
     ensures { ExpiredWasTaken }
 {}
 
-/// No note of a tick is lost: once the tick has returned, the note that it posted is pending at the
-/// process of each timer that expired, where its kernel has that process, or that process took it
-/// since it was posted.
+/// No note of a tick is lost. Once the tick has returned, for each timer that expired, the note
+/// that the tick posted is pending at the timer's process, where its kernel has that process, or
+/// that process has taken it since.
 pub fn who_expired_is_told()
     ensures { TickingTellsEach }
 {}

@@ -1,8 +1,8 @@
-//! Timers: a seat sets one to a moment, and a tick that tells that this moment is come posts the
-//! note `expired` to the process of the seat. A call with a deadline sets one before it sleeps.
-//! Read `due`, `tournament`, `timer_object`, `object`, the timers as an object that a lock stands
-//! round; then `timers`, `timer_asks`, `ticking`, the calls of processes on threads; `limits`,
-//! `within`, `sleeping`, how a call waits until a moment; and `laws`.
+//! Timers: a seat sets a timer to a moment, and a tick at that moment or later posts the note
+//! `expired` to the process of the seat. A call with a deadline sets a timer before it sleeps. Read
+//! `due`, `tournament`, `timer_object`, `object`, the timers as an object under a lock; then
+//! `timers`, `timer_asks`, `ticking`, the calls of processes on threads; `limits`, `within`,
+//! `sleeping`, how a call waits until a moment; and `laws`.
 #![tactic(auto)]
 
 pub mod due;

@@ -1,4 +1,4 @@
-//! Timers as an object that a kernel lock may stand round.
+//! Timers as an object that a kernel lock may guard.
 ghost use Rattle.timer_list.specs.Definitions.{timer_definition};
 
 use crate::{TimerCall, TimerObject, TimerReply};

@@ -21,13 +21,14 @@ use waiting::{Reply, WaitingCall};
 impl Timers {
     /// Sleeps until the level of the Rendez is above the threshold, a wakeup takes the process,
     /// notes come, or a tick comes at the moment `now` + `ms` or later; that moment is at most
-    /// `u64::MAX`. After tsleep of the kernel; the tick is the library's own. As a sleep that ends
-    /// well it says that the condition held or a wakeup came, so a caller tests again.
+    /// `u64::MAX`. After tsleep of the kernel; the tick is the library's own. As with a sleep that
+    /// ends well, a good answer says that the condition held or a wakeup came, so a caller tests
+    /// again.
     ///
     /// Refuses, in this order, as `NoRendez`, as `BadLevel` where no level is above the threshold,
     /// as `DoubleSleep` where another process sleeps there, as `Interrupted` with the notes that
-    /// ended it, which are no longer pending, and as `TimedOut` where a tick did so and no other
-    /// note came. With any other answer other notes that came are pending again. Where a tick has
+    /// ended it, which are no longer pending, and as `TimedOut` where a tick ended it and no other
+    /// note came. With any other answer, other notes that came are pending again. Where a tick has
     /// taken its timer, it waits for that tick's note before it answers, so that no late expiry
     /// reaches a later sleep. It waits for the timers' lock. Takes no memory.
     pub fn sleep_within<R: Wait>(
@@ -88,7 +89,7 @@ impl Timers {
     }
 }
 
-/// A sleep: it asks nobody.
+/// A sleep as a call, which asks no device.
 #[derive(Drop)]
 pub(crate) struct Sleep {
     threshold: u64,

@@ -1,4 +1,4 @@
-//! How a moment is told, and timers expire.
+//! How a tick says which moment it is, and timers expire.
 ghost use Rattle.std.specs.Prelude.{◌≡◌, false, nat_lt, IsTrue};
 ghost use Rattle.sync_base.specs.declared.note.Note.TheVariants.{Expired};
 ghost use Rattle.sync_base.specs.NoteSet.{only};
@@ -15,10 +15,10 @@ use std::sync::Wait;
 use sync_base::{Note, NoteSet, Pid};
 
 impl Timers {
-    /// Tells that it is now this moment: each timer whose deadline is come expires, and its process
-    /// is posted the note `expired`. Answers how many expired: at most as many as there are
-    /// processes. Own; tsemacquire in semacquire(2) has a clock of its own.
-    /// It waits for the timers' lock. Takes no memory.
+    /// Says that it is now this moment: each timer whose deadline has come expires, and its process
+    /// is posted the note `expired`. Returns how many expired: at most as many as there are
+    /// processes. Own; tsemacquire in semacquire(2) has a clock of its own. It waits for the
+    /// timers' lock. Takes no memory.
     pub fn tick<R: Wait>(&self, rt: &R, proc: &mut Proc<'_>, timer: &mut TimerSeat, now: u64) -> u64
         requires { IsTimerSeatOf self.now timer.old }
         ensures seat { IsTimerSeatOf self.now timer.new }

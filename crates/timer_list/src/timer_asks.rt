@@ -47,7 +47,7 @@ impl Timers {
         }
     }
 
-    /// Ends the first timer whose deadline is come, and says for which process it was.
+    /// Ends the first timer whose deadline has come, and returns its process.
     pub(crate) fn expire<R: Wait>(&self, rt: &R, seat: &mut TimerSeat, now: u64) -> Option<Pid>
         requires { IsTimerSeatOf self.now seat.old }
         ensures asks { AsksTimers self.now false (TimerCall.Expire now) (expire_reply result)

@@ -10,12 +10,12 @@ use std::alloc::Global;
 use std::marker::Model;
 use sync_base::{Fault, Pid};
 
-/// How the timer of a seat stands.
+/// The state of a seat's timer.
 #[derive(Clone, Copy, Debug, PartialEq, Eq)]
 pub enum Timer {
-    /// The seat has none, or the last one was cancelled.
+    /// The seat has no timer, or its last timer was cancelled.
     Unset,
-    /// It expires at the first tick from the deadline on, and the process is then told.
+    /// It expires at the first tick from the deadline on, and the process then gets the note.
     Set { pid: Pid, deadline: u64 },
     /// It expired, and was not cancelled since.
     Expired,
@@ -25,9 +25,9 @@ pub enum Timer {
 pub enum TimerCall {
     /// Sets the timer of a seat.
     Add { seat: u64, pid: Pid, deadline: u64 },
-    /// It is now this moment: ends the first timer whose deadline is come.
+    /// It is now this moment: ends the first timer whose deadline has come.
     Expire { now: u64 },
-    /// Takes the timer of a seat away, and asks what became of it.
+    /// Takes the timer of a seat away, and asks whether it had expired.
     Cancel { seat: u64 },
 }
 
@@ -36,11 +36,11 @@ pub enum TimerReply {
     Added,
     /// A timer expired; this is the process that it was for.
     Ended(Pid),
-    /// No deadline is come.
+    /// No deadline has come.
     NoneDue,
     /// The timer was still to come.
     Removed,
-    /// The timer had expired. This is told once.
+    /// The timer had expired. This is answered once.
     Expired,
     /// There was no timer.
     Absent,
@@ -48,7 +48,7 @@ pub enum TimerReply {
     Busy,
 }
 
-/// The moment `ms` milliseconds after `now`. It never passes the last one.
+/// The moment `ms` milliseconds after `now`, and at most the last moment.
 pub fn deadline(now: u64, ms: u32) -> u64
     ensures { result ≡ deadline_of now ms }
 {

@@ -37,7 +37,7 @@ impl Timers {
     ghost use Rattle.timer_list.specs.TimerHistory.{sets_after};
     ghost use Rattle.timer_list.specs.Timers.{WhyNoTimers};
 
-    /// Timers for so many processes, none of which is set. Refuses, in this order, as `NoProc`
+    /// Timers for this many processes, none of which is set. Refuses, in this order, as `NoProc`
     /// where the processes are not from 1 to 1,024, and `Memory`. Doesn't wait.
     pub fn new(alloc: Global, procs: u64) -> Result<OpenedTimers, Fault>
         // Refused first.

@@ -1,4 +1,4 @@
-//! A tournament of timers, in which the earliest one wins. One step up the tree for each game, so
+//! A tournament of timers, in which the earliest one wins. Each game is one step up the tree, so
 //! that a change and the search for the winner take O(log n).
 ghost use Rattle.std.specs.Prelude.{◌≡◌, ◌<◌, ◌≤◌, ◌^◌, length, IfOk, IfErr, replicate, None};
 ghost use Rattle.std.specs.Prelude.{slice_set};
@@ -14,8 +14,8 @@ use sync_base::Fault;
 #[derive(Debug, Drop)]
 pub(crate) struct Tournament {
     entrants: usize,
-    /// Place 1 is the winner of all; below place i are 2 i and 2 i + 1; a seat enters at
-    /// `entrants` + its number.
+    /// Place 1 has the winner of all; below place i are places 2 i and 2 i + 1; a seat enters at
+    /// place `entrants` + its number.
     nodes: Vec<Option<Due>>,
 }
 

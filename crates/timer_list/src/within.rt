@@ -38,7 +38,7 @@ pub struct Deadline<'t> {
     pub ms: u32,
 }
 
-/// It runs a call by `wait_within`.
+/// This runner runs a call by `wait_within`.
 impl<'t> Runner for Deadline<'t> {
     ghost use Rattle.std.specs.Prelude.{ℕ};
     ghost use Rattle.kernel_lock.specs.Seats.{number_of};
@@ -71,15 +71,16 @@ impl<'t> Runner for Deadline<'t> {
     }
 }
 
-/// Makes a call, as `wait_for` of `waiting` does, which waits until its deadline. After tsemacquire
+/// Makes a call, as `wait_for` of `waiting` does, with a deadline for its wait. After tsemacquire
 /// in semacquire(2) and tsleep of the kernel; the tick is the library's own.
 ///
-/// A call that is told to wait sets its timer first. Where notes end its wait, and it has come to
-/// nothing by then, it is refused as `TimedOut` where a tick took its timer and no other note came,
-/// and else as `Interrupted` with the other notes. With any other answer other notes that came are
+/// A call that has to wait sets its timer first. Where notes end its wait, and it has come to no
+/// result by then, it is refused as `TimedOut` where a tick took its timer and no other note came,
+/// and else as `Interrupted` with the other notes. With any other answer, other notes that came are
 /// pending again. Where a tick has taken its timer, it waits for that tick's note before it
-/// answers, so that no late expiry reaches a later sleep. The probe is told 2 before each sleep of
-/// the call and 3 after it. It waits for the timers' lock. Takes no memory of its own.
+/// answers, so that no late expiry reaches a later sleep. The probe is called at its points 2,
+/// before each sleep of the call, and 3, after it. It waits for the timers' lock. Takes no memory
+/// of its own.
 pub fn wait_within<R: Wait, C: WaitingCall, P: Probe>(
     rt: &R,
     proc: &mut Proc<'_>,

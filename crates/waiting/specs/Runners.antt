@@ -1,5 +1,5 @@
--- How calls are run. Own: as long as it takes, or until a moment; what holds of the first holds of
--- any.
+-- How calls are run. Own: as long as it takes, or until a moment; what holds of the first runner
+-- holds of any.
 use Rattle.std.specs.Prelude.{◌≡◌, ⊤, Result, Ok, Err}
 use Rattle.std.proofs.Common.{inl, inr}
 use Rattle.histories.specs.History.{IsPast}
@@ -9,7 +9,7 @@ use Rattle.sync_base.specs.declared.fault.Fault.{Fault}
 use Rattle.sync_base.specs.declared.ids.RendezId.{RendezId}
 use Rattle.waiting.specs.Waiting.{Promise, Point, Waited, point}
 
--- where a run stands: the call, and the timer that the runner is lent
+-- the state of a run: the call, and the timer that the runner is lent
 pub record RunPoint (Timer Seat : Type 0) : Type 0 where
   pub at : Point Seat
   pub timer : Timer
@@ -17,7 +17,7 @@ pub record RunPoint (Timer Seat : Type 0) : Type 0 where
 abbrev pub run_point : {Timer Seat : Type 0} → Seat → Timer → Running → RunPoint Timer Seat
 run_point seat timer proc = record { at = point seat proc; timer = timer }
 
--- what a runner does with any call: from where to where it goes, by the answer
+-- what a runner does with any call: from which state to which state, by the answer
 pub record Runs (Timer : Type 0) : Type 1 where
   pub ran : {Seat Out : Type 0} → Promise Seat Out → RendezId → RunPoint Timer Seat
       → Result Out Fault → RunPoint Timer Seat → Type 0
@@ -29,7 +29,7 @@ as_long_as_it_takes =
 
 -- ---- as a call that waits as long as it takes
 
--- the two answers came to the same, or both to nothing
+-- the two answers are the same result, or both are none
 abbrev pub ComesToSame : {Out : Type 0} → Result Out Fault → Result Out Fault → Type 0
 ComesToSame (Ok one) (Ok other) = other ≡ one
 ComesToSame (Err why) (Err other) = ⊤
@@ -37,15 +37,15 @@ ComesToSame one other = ⊥
 
 module _ {Seat Out : Type 0} (promise : Promise Seat Out) (rendez : RendezId)
     (before : Point Seat) where
-  -- where the process of a call stood when its last request or its last sleep was over: it has put
-  -- no notes back
+  -- where the process of a call was when its last request or its last sleep was over: it has put no
+  -- notes back
   abbrev pub over_at : (answer : Result Out Fault) (after : Point Seat)
       → Waited promise rendez before answer after → Process
   over_at answer after (inl begun) = after.process
   over_at answer after (inr waits) = waits.waited.process
 
-  -- What it did to its seat, a call without a deadline does, and comes to the same: so the laws of
-  -- a device's calls hold of it.
+  -- A call without a deadline does to its seat what this call did, and comes to the same result or
+  -- likewise to none: so the laws of a device's calls hold of it.
   pub record IsACall (answer : Result Out Fault) (after : Point Seat) : Type 0 where
     pub told : Result Out Fault
     pub process : Process

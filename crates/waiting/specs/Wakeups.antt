@@ -1,4 +1,4 @@
--- Whom a call wakes, and that no wakeup of a call that has returned is lost.
+-- The wakeups that a call makes, and that no wakeup of a call that has returned is lost.
 use Rattle.std.specs.Prelude.{◌≡◌, ℕ, List, [], ◌∷◌}
 use Rattle.std.specs.List.{AllByRecursion}
 use mathlib.Core.Option.{some}
@@ -20,7 +20,7 @@ pub record Wakeup : Type 0 where
   pub rendez : RendezId
   pub level : ℕ
 
--- one wakeup more
+-- one more wakeup
 pub record WakesToo (Before : Process → Type 0) (wakeup : Wakeup) (after : Process) : Type 0 where
   pub between : Process
   pub others : Before between
@@ -38,8 +38,8 @@ pub record HasGoneOn (views : List View) (process : Process) : Type 0 where
   pub there : get_elem? views seat ≡ some (view.Process part)
   pub since : IsPast process.trace part.trace
 
--- No wakeup is lost, at whatever device: whoever fell asleep on one of these Rendez below its level
--- is no longer posted there, once the call that woke it has returned.
+-- No wakeup is lost, at whatever device: a process that fell asleep on one of these Rendez below
+-- its level is no longer posted there, once the call that woke it has returned.
 abbrev pub ReturnedCallsRelease : Type 0
 ReturnedCallsRelease =
     (sizes : Sizes) (s : _) (shows : ShowsCore sizes s)

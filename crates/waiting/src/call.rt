@@ -3,20 +3,20 @@ use sleep_wakeup::Proc;
 use std::sync::Wait;
 use sync_base::Fault;
 
-/// What a device answers.
+/// The answer of a device.
 #[derive(Clone, Copy, Drop)]
 pub enum Reply<T> {
-    /// The call came to this.
+    /// The call came to this result.
     Done(T),
-    /// It sleeps with this number, and asks again.
+    /// It sleeps with this number, and then asks again.
     Wait(u64),
     /// It is refused, and doesn't wait.
     Refused(Fault),
 }
 
-/// A call that may have to wait, as its three requests. Each of the first two wakes whom it lets go
-/// on, and is lent the buffer of the caller: no bytes where the call reads none. None of them
-/// sleeps.
+/// A call that may have to wait, as its three requests. Each of the first two wakes the calls that
+/// it lets go on, and is lent the caller's buffer: no bytes where the call reads none. None of the
+/// requests sleeps.
 pub trait WaitingCall {
     ghost use Rattle.std.specs.Prelude.{◌≡◌, ⊤, ℕ, List, Option};
     ghost use Rattle.rendez_words.specs.declared.words.Words.{Words};
@@ -25,10 +25,10 @@ pub trait WaitingCall {
     /// The caller's seat at the device.
     type Seat;
 
-    /// What a call comes to that was not refused.
+    /// The result of a call that was not refused.
     type Out: Drop;
 
-    /// A seat that may call, one whose call waits, and one after its call.
+    /// A seat that may call, a seat whose call waits, and a seat after its call.
     ghost ready: { Self → Self.Seat → Type 0 };
 
     ghost waits: { Self → Self.Seat → Type 0 };
@@ -46,7 +46,7 @@ pub trait WaitingCall {
 
     ghost sight: { Self.Seat → List ℕ → Sight };
 
-    /// What each request does to that and to the process, by its answer.
+    /// What each request does to the seat, the buffer and the process, by its answer.
     ghost promise: { Self → Promise Sight Self.Out };
 
     /// The first request.
@@ -85,7 +85,8 @@ pub trait WaitingCall {
         ensures asked { (promise self.now).asked (point (sight seat.old buffer.old) proc.old) result
             (point (sight seat.new buffer.new) proc.new) };
 
-    /// The last request, after a sleep that failed: what the call had come to by then, if it had.
+    /// The last request, after a sleep that failed: the result that the call had come to by then,
+    /// if it had one.
     fn leave<R: Wait>(&self, rt: &R, seat: &mut Self::Seat) -> Option<Self::Out>
         requires waits { waits self.now seat.old }
         ensures rests { rests self.now seat.new }

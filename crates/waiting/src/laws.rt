@@ -2,8 +2,8 @@
 //! contract is the law.
 ghost use Rattle.waiting.specs.Wakeups.{ReturnedCallsRelease};
 
-/// No wakeup of a call that has returned is lost: whoever fell asleep below its level is no longer
-/// posted there.
+/// No wakeup of a call that has returned is lost: a process that fell asleep below its level is no
+/// longer posted there.
 pub fn returned_calls_release()
     ensures { ReturnedCallsRelease }
 {}

@@ -1,6 +1,6 @@
-//! One wait for all devices. A call asks its device; told to wait with a number, it sleeps on its
-//! own Rendez with that number, and asks again; where a sleep fails, it leaves.
-//! Read `call`, what a device offers; `wait`, the wait; `runner`, how a call is run; `laws`.
+//! One wait for all devices. A call asks its device. Where the answer is `Wait` with a number, it
+//! sleeps on its own Rendez with that number, and asks again; where a sleep fails, it leaves. Read
+//! `call`, what a device offers; `wait`, the wait; `runner`, how a call is run; `laws`.
 #![tactic(auto)]
 
 pub mod call;

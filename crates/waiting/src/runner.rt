@@ -12,22 +12,22 @@ pub trait Runner {
     ghost use Rattle.waiting.specs.Runners.{IsACall, Runs, run_point};
     ghost use Rattle.waiting.specs.Waiting.{point};
 
-    /// What it is lent beside the seat of the call: a timer, or nothing.
+    /// What the runner is lent beside the seat of the call: a timer, or nothing.
     type Timer;
 
     /// A timer between two calls.
     ghost rests: { Self → Self.Timer → Type 0 };
 
-    /// What of a timer each run keeps.
+    /// What each run keeps of a timer.
     ghost Kept: { Type 0 };
 
     ghost kept: { Self.Timer → Kept };
 
-    /// What it does with a call.
+    /// What the runner does with a call.
     ghost runs: { Self → Runs Self.Timer };
 
-    /// Runs the call, whose requests are lent this buffer, on this Rendez. The probe is told 2
-    /// before each sleep of the call and 3 after it.
+    /// Runs the call, whose requests are lent this buffer, on this Rendez. The probe is called at
+    /// its points 2, before each sleep of the call, and 3, after it.
     fn run<R: Wait, C: WaitingCall, P: Probe>(
         &self,
         rt: &R,

@@ -10,11 +10,12 @@ use sleep_wakeup::Proc;
 use std::sync::Wait;
 use sync_base::{Fault, Probe, RendezId};
 
-/// Makes a call, whose requests are lent this buffer. It asks; while it is told to wait, it sleeps
-/// on this Rendez with the number that it was told last, and asks again. A sleep that notes ended,
-/// or that found another process on the Rendez, is the call's last: it leaves, and is refused with
-/// that fault. Where it had come to something by then it answers that, and the notes are pending
-/// again. The probe is told 2 before each sleep and 3 after it. Takes no memory of its own.
+/// Makes a call, whose requests are lent this buffer. It asks. While the answer is `Wait`, it
+/// sleeps on this Rendez with the number of the last answer, and asks again. A sleep that notes
+/// ended, or that found another process on the Rendez, is the call's last: it leaves, and is
+/// refused with that fault. Where it had come to a result by then, it returns that result, and the
+/// notes are pending again. The probe is called at its points 2, before each sleep, and 3, after
+/// it. Takes no memory of its own.
 pub fn wait_for<R: Wait, C: WaitingCall, P: Probe>(
     rt: &R,
     proc: &mut Proc<'_>,
@@ -64,14 +65,15 @@ fn end_wait<T: Drop>(proc: &mut Proc<'_>, ending: WaitEnd<T>) -> Result<T, Fault
 /// How the sleeps of a call ended.
 #[derive(Drop)]
 pub enum WaitEnd<T> {
-    /// A request was answered.
+    /// A request was answered with the call's result.
     Answered(Result<T, Fault>),
-    /// A sleep failed for this, and the call left: what it had come to by then, if it had.
+    /// A sleep failed with this fault, and the call left: the result that it had come to by then,
+    /// if it had one.
     Stopped(Fault, Option<T>),
 }
 
-/// The sleeps of a call that was told to wait with this number, and its requests after them. The
-/// notes that a failed sleep took are the caller's.
+/// The sleeps of a call that has to wait with this number, and its requests after them. The notes
+/// that a failed sleep took are the caller's.
 pub fn sleep_for<R: Wait, C: WaitingCall, P: Probe>(
     rt: &R,
     proc: &mut Proc<'_>,

@@ -1,5 +1,5 @@
-//! A thread that surely sleeps for a lock is woken by a release, and a release wakes nobody else.
-//! Each test ends by itself, also where a wake is lost, but for two that sleep by hand.
+//! A release wakes a thread that surely sleeps for the lock, and wakes nobody else. Each test ends
+//! by itself, also where a wake is lost, but for two that sleep by hand.
 ghost use Rattle.kernel_lock.specs.Seats.{IsSeatOf};
 
 use super::{Attempt, Taken, Waiters};
@@ -14,14 +14,14 @@ use std::thread::{Threads, join, yield_now};
 /// How often a thread looks for a sign of the other.
 const LOOKS: u64 = 200_000;
 
-/// How often a thread that is about to sleep is let go on: often enough for a machine that is
-/// busy, and no oftener, since there each turn may take as long as the others like.
+/// How often a thread that is about to sleep is let go on: often enough for a busy machine, and no
+/// oftener, since there each turn may take as long as the other processes like.
 const TURNS: u64 = 100;
 
 /// How long each turn is where nobody else wants the processor.
 const PAUSES: u64 = 1_000;
 
-/// How two threads tell of themselves.
+/// How two threads signal to each other.
 #[derive(Drop)]
 struct Signs {
     announced: AtomicU64,

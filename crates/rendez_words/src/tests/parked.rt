@@ -1,6 +1,6 @@
-//! Sleepers that are surely parked when they are woken: who wakes them has seen that they say so,
-//! and then lets turns pass. Where the wake is lost the sleeper is roused by hand, so each test
-//! ends by itself, and fails.
+//! Sleepers that are surely parked when they are woken: the waker has seen their announcement, and
+//! then lets turns pass. Where the wake is lost, the sleeper is roused by hand, so each test ends
+//! by itself, and fails.
 ghost use Rattle.std.specs.Prelude.{◌<◌};
 ghost use Rattle.rendez_words.specs.Words.{IsProcessOf, procs_of};
 
@@ -16,13 +16,13 @@ use std::thread::{Threads, join, yield_now};
 use sync_base::line::LINE;
 use sync_base::{Note, NoteSet, Pid};
 
-/// How often a waker yields once the sleeper has said that it parks, so that it does.
+/// How often a waker yields once the sleeper has announced that it parks, so that it does.
 const TURNS: u64 = 200;
 
 /// For how many turns a wakeup that has taken the sleeper holds it before it marks it.
 const HELD: u64 = 10_000;
 
-/// How often a waker yields before it takes what it waits for as lost.
+/// How often a waker yields before it takes the event that it waits for as lost.
 const LATE: u64 = 2_000_000;
 
 const SLEEPER: Pid = Pid(0);
@@ -151,7 +151,7 @@ fn sleep_and_note<R: Threads + Wait + Sync>(
     )
 }
 
-/// What the sleeper and the waker have done, each 1 once it is.
+/// What the sleeper and the waker have done: each word is 1 once its act is done.
 #[derive(Drop)]
 struct Done {
     posted: AtomicU64,

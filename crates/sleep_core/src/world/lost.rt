@@ -1,5 +1,5 @@
-//! Whether a wakeup was lost.
-//! The reader comes from `world`. The law `no_lost_wakeup` in `laws` says that none ever is.
+//! Whether a wakeup was lost. The reader comes from `world`. The law `no_lost_wakeup` in `laws`
+//! says that no wakeup ever is.
 ghost use Rattle.std.specs.Prelude.{◌≡◌, ◌<◌, ◌↔◌, IsTrue, length};
 ghost use Rattle.sleep_core.specs.LostWakeup.{HasLostWakeup, has_lost_wakeup, oversleeps};
 ghost use Rattle.sleep_core.specs.State.{phase_of};
