@@ -49,7 +49,8 @@ pub record SawPasts (history : List Entry) (view : View) : Type 0 where
   pub seen : IsPast view.account.seen history
   pub before : AllByRecursion (λ past. IsPast past history) view.pasts
 
--- what one seat saw, which was joined with all seats but the rest, gives the pasts of these seats
+-- where the seat that was joined with all seats but the rest saw pasts of a history, so did the
+-- reader, and, if the rest did, all writers
 pub record TellsPasts (puts : List PutSeat) (old : View) (rest : List PutSeat) (now : View) :
     Type 0 where
   pub reader : (history : List Entry) → SawPasts history now → IsPast old.account.seen history

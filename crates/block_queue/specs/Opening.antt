@@ -18,7 +18,7 @@ abbrev pub IsBadQueue : ℕ → ℕ → Type 0
 IsBadQueue limit writers =
     ((limit ≡ 0) ⊎ (MAX_PIPE_LIMIT < limit)) ⊎ ((writers ≡ 0) ⊎ (MAX_WRITERS < writers))
 
--- the sizes are allowed, and `first` is above the number of the last write
+-- the sizes are allowed, and `first` is above the last number that a write may have
 pub record IsBadFirst (limit writers first : ℕ) : Type 0 where
   pub sizes : IsBadQueue limit writers → ⊥
   pub above : LAST_WRITE < first

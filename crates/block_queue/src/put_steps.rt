@@ -102,7 +102,7 @@ impl Queue {
             .into_spare()
     }
 
-    /// Marks the place: the block stands.
+    /// Writes into the sequence word of the place that the block stands.
     // Step Store: store of the sequence word of its place. The slot is at home again.
     // Seat: Storing, then Free with the entry Stood.
     // Keeps the rule: no read has begun the write, and its block lies in the slot.

@@ -7,8 +7,8 @@ use atomic_table::{Seat, Table, TableRule};
 use std::alloc::Global;
 
 /// There is one legal history. Each seat has seen a past of it, and it has each of the seat's own
-/// entries once. The tail counts the writes that the history accepted, with the mark where it was
-/// hung up, and the places hold the blocks that it has left.
+/// entries once. The tail counts the writes that were accepted in it, with the mark where the queue
+/// was hung up, and the places hold the blocks that are left.
 pub struct OneQueue;
 
 pub type QueueTable = Table<Slot, View, Key, OneQueue, Global>;

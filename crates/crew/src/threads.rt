@@ -25,9 +25,10 @@ pub const LIMIT: u64 = 16;
 
 const _: () = prove!(LIMIT == 16);
 
-/// Runs many writers and one reader, each on a thread of its own, on one direction of a pipe: each
-/// writer writes its messages, which are those of `message`, and the reader reads until the end. It
-/// hangs the pipe up when all writers have returned, and reports what was read. It waits.
+/// Runs `opts.writers` writers and one reader, each on a thread of its own, on one direction of a
+/// pipe: each writer writes its messages, which are those of `message`, and the reader reads until
+/// the end. It hangs the pipe up when all writers have returned, and reports what was read. It
+/// waits.
 ///
 /// Refuses, in this order, as `BadArg` outside the limits of `ThreadsOpts`, as `Memory`, and as
 /// `Device` where a thread can't be started; then all others have been joined.

@@ -54,8 +54,8 @@ pub record HoldsNothing (held : Held) : Type 0 where
 
 -- What the reader got, part by part, continued by what is held, is just the accepted writes, each
 -- whole, contiguous and once, in the order in which they were accepted. The accepted writes of each
--- writer are just what was accepted from it, in its order, which is the first of the messages that
--- it was given. Where the reader came to the end, nothing is held: all that was accepted was read.
+-- writer are just what was accepted from it, in its order: the first messages that it was given.
+-- Where the reader came to the end, nothing is held: all that was accepted was read.
 pub record IsWholeAndOnce (given : List (List (List ℕ))) (outcome : Outcome) : Type 0 where
   pub accepted : List Write
   pub parts : List Part
@@ -80,8 +80,8 @@ AllAreAccepted given outcome =
 
 -- ---- what the history of the direction says
 
--- The write of the next message of a writer was refused with this fault, by its own entries and the
--- steps of its process.
+-- The write of the next message of a writer was refused with this fault, as its own entries and the
+-- steps of its process show.
 pub record WasRefusedFor (why : Fault) (writer : ℕ) (written : Written) (mine : List Entry)
     (process : Process) : Type 0 where
   pub left : written.accepted < length written.messages.items

@@ -1,5 +1,5 @@
--- Why a write was refused, and why a reader stopped, by the entries of the seat that made the call
--- and the steps of its process.
+-- Why a write was refused, and why a reader stopped, as the entries of the seat that made the call
+-- and the steps of its process show.
 use Rattle.std.specs.Prelude.{◌≡◌, ◌≢◌, ◌⊎◌, ◌<◌, ⊤, ℕ, List, [], ◌∷◌, length}
 use Rattle.std.specs.Prelude.{Option, Some, None}
 use Rattle.sync_base.specs.declared.fault.Fault.{Fault}

@@ -88,6 +88,6 @@ module _ {View Entry : Type 0} (by : Entry → ℕ) (account_of : View → Accou
     -- each seat's account fits
     pub each_seat : (seat : ℕ) (view : View) → get_elem? views seat ≡ some view →
         FitsLedger by ledger seat (account_of view)
-    -- a seat gave each number but 0, and its account says so: no number comes from nowhere
+    -- each number but 0 was given by a seat, whose account says so: no number comes from nowhere
     pub each_number : (number : ℕ) → 0 < number → number < ledger.next →
         WasGiven account_of ledger views number

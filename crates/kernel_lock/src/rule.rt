@@ -11,8 +11,8 @@ use std::marker::PhantomData;
 
 /// There is one legal history, newest first. Where the word is 0 the object is at home, as the
 /// history leaves it, beside the next number. What each seat has seen is a past of the history, and
-/// has each of its own requests once. The numbers of the seats differ. The seat of a lower number
-/// gave each number but 0, and knows that it did.
+/// has each of its own requests once. The numbers of the seats differ. Each number but 0 was given
+/// by the seat of a lower number, which knows that it gave it.
 pub struct OneHistory<O> {
     object: PhantomData<O>,
 }

@@ -27,8 +27,8 @@ IsAsked (Err fault.NoRendez) = ⊥
 IsAsked (Err fault.Memory) = ⊥
 IsAsked answer = ⊤
 
--- A run did to its direction what such a call that waits as long as it takes does, with the same
--- answer or none.
+-- A run did to its direction what such a call that waits as long as it takes does; and both come to
+-- the same result, or neither comes to one.
 pub record RunsAs {Seat Out : Type 0} (Does : Result Out Fault → Point Seat → Type 0)
     (answer : Result Out Fault) (new : Point Seat) : Type 0 where
   pub told : Result Out Fault

@@ -48,8 +48,8 @@ abbrev pub left_state : Key → List Entry → PipeState
 left_state key history = (queue_after key history).pipe
 
 -- All ends of a direction are given back: there is one legal history, with just the entries of each
--- writer; the read end saw a part of it, and has read each block taken out in it; and what is held
--- is what that history leaves.
+-- writer; the read end saw a past of it, with all entries of the reader; and what is held is what
+-- that history leaves.
 pub record Finishes (key : Key) (reading : Reading) (writers : List (Share Entry))
     (held : Holdings) : Type 0 where
   pub history : List Entry

@@ -20,7 +20,7 @@ use Rattle.pipe_dev.specs.Ends.{ReadSide, WriteSide, IsRowOf, IsReadState, IsWri
 use Rattle.pipe_dev.specs.Ends.{AreAllEnds}
 use Rattle.pipe_dev.specs.Rendezes.{OwnsRow}
 
--- each direction may have this many writes waiting, and has this many writers
+-- each direction holds at most `limit` writes that no read has begun, and has `writers` writers
 abbrev pub key_for : ℕ → ℕ → Key
 key_for limit writers = record { limit = limit; first = 0; writers = writers }
 

@@ -32,7 +32,7 @@ pub record AddsToRead (Adds : List Part → List Part → Type 0) (old : ReadSid
   pub added : Adds parts parts'
   pub just : HasReadJust new parts'
 
--- a call of a write end: it adds these to what was written, and the end stays at its direction
+-- a call of a write end: it adds these after what was written, and the end stays at its direction
 pub record AddsToWritten (blocks : List (List ℕ)) (old new : WriteSide) : Type 0 where
   pub same : IsSameWriteEnd old new
   pub just : (before : List (List ℕ)) → HasWrittenJust old before →

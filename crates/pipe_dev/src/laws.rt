@@ -71,8 +71,8 @@ pub fn each_write_is_read_whole_and_once()
 {}
 
 /// Whatever its runner is, a call does to its direction what a call that waits as long as it takes
-/// does, by steps of its caller, with the same answer or none: so the laws of writes and reads hold
-/// of it.
+/// does, by steps of its caller, and both come to the same result, or neither comes to one: so the
+/// laws of writes and reads hold of it.
 pub fn runs_are_calls()
     ensures writes { RunsOfWritesAreWrites }
     ensures reads { RunsOfReadsAreReads }

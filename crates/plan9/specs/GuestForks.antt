@@ -32,7 +32,7 @@ in_space call = rfork_of call.unused call.guest.space call.flags
 abbrev pub KnowsHall : GuestFork → Type 0
 KnowsHall call = OwnsRow call.guest.space call.unused.words
 
--- the roster is of another kernel, and then its tag space is not called
+-- the roster is of another kernel, and then the guest's tag space is not called
 pub record RefusesStranger (call : GuestFork) (after : Visiting) (why : Fault) : Type 0 where
   pub strange : ¬ KnowsHall call
   pub why_is : why ≡ fault.NoRendez

@@ -30,7 +30,7 @@ ends_of writers = map (λ writer. writer.end) writers
 abbrev pub procs_of_writers : List Writer → List Running
 procs_of_writers writers = map (λ writer. writer.proc) writers
 
--- each of these ends has a process of its own, which are the next ones of the roster
+-- each of these ends has a process of its own; these processes are the next ones of the roster
 pub record HaveEnds (before : Unused) (parent : ℕ) (ends : List WriteSide) (writers : List Writer)
     (after : Unused) : Type 0 where
   pub ends_are : ends_of writers ≡ ends

@@ -24,7 +24,7 @@ pub record CountsProcsAlone (count : ℕ) (old new : Planned) : Type 0 where
   pub procs : CountsProcs count old new
   pub rendez : new.rendez ≡ old.rendez
 
--- this many Rendez more
+-- this many more Rendez
 pub record CountsRendez (count : ℕ) (old new : Planned) : Type 0 where
   pub more : old.rendez + count ≤ MAX_RENDEZ → new.rendez ≡ old.rendez + count
   pub too_many : MAX_RENDEZ < old.rendez + count → MAX_RENDEZ < new.rendez

@@ -45,7 +45,7 @@ Takes old answer new = ReadsPiece old.reader old.buffer answer new.reader new.bu
 abbrev pub PassesEmpty : Lent → Lent → Type 0
 PassesEmpty old new = Takes old (Ok (Some 0)) new
 
--- in std no bytes stand for the end
+-- in std a read of no bytes says that the end came
 abbrev pub piece_or_end : ℕ → Option ℕ
 piece_or_end zero = None
 piece_or_end (suc count) = Some (suc count)

@@ -65,7 +65,7 @@ impl<'s, 'k> Guest<'s, 'k> {
     /// After fork(2): a child with RFPROC, and a new hall with RFREND, for as many processes as
     /// this one. A child is a guest of its parent's hall; with RFREND it is instead the process
     /// that is to be the first of the new one. With RFREND alone the caller is that process. With
-    /// RFNOTEG a child is the first of a new note group; without RFPROC the caller is.
+    /// RFNOTEG a child or, without RFPROC, the caller is the first of a new note group.
     ///
     /// Refuses, in this order, as `NoRendez` where the kernel of the roster does not own all the
     /// Rendez of the hall, `BadFlags` for any other flag, `NoProc` where no pid is left, `NoRendez`

@@ -67,7 +67,7 @@ impl RealTime {
 }
 
 /// The moments of real time, in milliseconds from 0 on where it was made. Each is later than the
-/// one before, and none is ahead of the system's clock while that can be read. It skips
+/// one before, and none is ahead of the system's clock while that can be read. It may skip
 /// milliseconds: on a busy machine the first two moments may be 32 and 36.
 #[derive(Drop)]
 pub struct Beat<'r, R> {

@@ -1,7 +1,7 @@
 //! Who parks. What a process announces here is no word of the table, and decides nothing: it keeps
 //! a mark and a note from a system call where the process does not park. Each step of parking and
-//! of waking gives a value that only the next step spends, and that can't be dropped. `put` and
-//! `get` alone touch the words, and return what they wrote and found.
+//! of waking gives a value that the next step spends, and that can't be dropped. `put` and `get`
+//! alone touch the words, and return what they wrote and found.
 ghost use Rattle.std.specs.Prelude.{◌≡◌, ◌≢◌, ◌==◌, ◌<◌, ◌^◌, IfOk};
 ghost use Rattle.rendez_words.specs.declared.parking.TheConstants.{AWAKE, PARKS};
 

@@ -148,7 +148,7 @@ impl Words {
             .fetch_max::<Make<M>>(&mut caller.stepper, word, least)
     }
 
-    /// Sets bits of the flags of the process, which has yet to be woken then.
+    /// Sets bits of the flags of the process, which then has yet to be woken.
     pub(crate) fn set_flags(
         &self,
         caller: &mut Caller,

@@ -1,6 +1,6 @@
 //! How a process waits for its flags. A process looks some times, then yields between its looks,
-//! and then parks. A process that sets its flags wakes it only where it parks, and else makes no
-//! system call.
+//! and then parks. A step that sets the flags of a process wakes it only where it parks, and else
+//! makes no system call.
 ghost use Rattle.std.specs.Prelude.{◌≡◌, IfSome, IfNone};
 ghost use Rattle.sleep_core.specs.declared.event.Event.TheVariants.{Look};
 ghost use Rattle.rendez_words.specs.FlagsWord.{flags_word};

@@ -12,7 +12,7 @@ use crate::words::Words;
 
 impl Words {
     /// Wakes the process where it parks, or is about to. Otherwise this is a load, and no system
-    /// call. The caller has set the flags: a process that is woken before that looks, and parks
+    /// call. The caller has set the flags: a process that is woken before they are set looks, parks
     /// again, and then nobody would wake it.
     pub(crate) fn wake(&self, unwoken: Unwoken, _by: &Caller)
         requires pid { unwoken.pid < procs_of self.now }

@@ -16,8 +16,8 @@ use sync_base::Fault;
 /// lines with their answers, and `docs/SCRIPTS.md` the rest of the format.
 ///
 /// Device: the reader failed, and nothing was written; or the writer failed, after a prefix of the
-/// answers was written. Memory: the same. Script: the line is not in the grammar, and the answers
-/// to the lines before it were written.
+/// answers was written. Memory: the same. Script: the line with that number is not in the grammar,
+/// and the answers to the lines before it were written.
 pub fn run_pipe<R: Read, W: Write>(
     alloc: Global,
     reader: &mut R,
@@ -38,8 +38,8 @@ pub fn run_pipe<R: Read, W: Write>(
 /// format.
 ///
 /// Device: the reader failed, and nothing was written; or the writer failed, after a prefix of the
-/// answers was written. Memory: the same. Script: the line is not in the grammar, and the answers
-/// to the lines before it were written, and no last line.
+/// answers was written. Memory: the same. Script: the line with that number is not in the grammar,
+/// and the answers to the lines before it were written, and no last line.
 pub fn run_replay<R: Read, W: Write>(
     alloc: Global,
     reader: &mut R,
@@ -59,7 +59,7 @@ pub fn run_replay<R: Read, W: Write>(
 /// writes is what the script says, up to its first line that is not in the grammar.
 ///
 /// Device: the reader failed, and nothing was written; or the writer failed, after a prefix of the
-/// answers was written. Memory: the same. Script: the line is not in the grammar.
+/// answers was written. Memory: the same. Script: the line with that number is not in the grammar.
 pub fn run_script<S: Script, R: Read, W: Write>(
     alloc: Global,
     reader: &mut R,

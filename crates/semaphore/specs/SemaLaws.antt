@@ -21,7 +21,7 @@ UnitsAddUp = AlwaysHolds (λ value count past s.
     s.value + taken past + uncollected s.stages ≡ value + released past)
 
 -- a seat's count is the number where it began plus the units that it was granted: those that it
--- collected, and the one that it did not collect yet
+-- collected, and one that it did not collect yet, if there is one
 abbrev pub CountsAreGrants : Type 0
 CountsAreGrants = AlwaysHolds (λ value count past s.
     (seat : ℕ) → seat < length s.stages →

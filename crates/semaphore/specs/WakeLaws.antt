@@ -1,5 +1,6 @@
--- No wakeup of a semrelease is lost: each process that it was named is released once it has
--- returned, and is named with a count above the number with which it began to sleep.
+-- No wakeup of a semrelease is lost: the process of each seat that it was named is released once
+-- the semrelease has returned, and the seat is named with a count above the number with which that
+-- process began to sleep.
 use Rattle.std.specs.Prelude.{◌≡◌, ◌≤◌, ◌<◌, ℕ, false, List, ◌∷◌, ◌++◌, Some}
 use Rattle.std.specs.List.{AllByRecursion}
 use Rattle.histories.specs.History.{IsLegal, state_after}

@@ -51,8 +51,8 @@ impl Sema {
         self.tsemacquire_probed(rt, proc, seat, timers, timer, now, ms, &mut NoProbe)
     }
 
-    /// As `tsemacquire`. The probe is called at its points 2, before each sleep for a unit, and 3,
-    /// after it.
+    /// As `tsemacquire`. The probe is called at its points: 2 before and 3 after each sleep for a
+    /// unit.
     pub fn tsemacquire_probed<R: Wait, P: Probe>(
         &self,
         rt: &R,

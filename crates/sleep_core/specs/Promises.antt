@@ -102,7 +102,7 @@ NoMarkIsStray [] = ⊤
 NoMarkIsStray (Marked raiser sleeper ∷ past) = IsHeld past raiser sleeper × NoMarkIsStray past
 NoMarkIsStray (effect ∷ past) = NoMarkIsStray past
 
--- After notify(2): notes that came to a process are pending until it gets them. Own: they are a
+-- After notify(2): notes that came to a process are pending until it takes them. Own: they are a
 -- set, and the end of a sleep takes them all.
 abbrev pub pending : List Effect → ℕ → NoteSet
 pending [] pid = no_notes
@@ -117,7 +117,7 @@ abbrev pub IsRightEnding : Option NoteSet → NoteSet → Type 0
 IsRightEnding None waiting = waiting ≡ no_notes
 IsRightEnding (Some notes) waiting = (notes ≡ waiting) × (notes ≢ no_notes)
 
--- each process got exactly the notes that were pending
+-- each process took exactly the notes that were pending
 abbrev pub AreNotesRight : List Effect → Type 0
 AreNotesRight [] = ⊤
 AreNotesRight (Left pid notes ∷ past) = IsRightEnding notes (pending past pid) × AreNotesRight past

@@ -1,5 +1,5 @@
 -- Note groups, after fork(2): each process is in one group, a child in its parent's. With RFNOTEG a
--- child is the first of a new group; without RFPROC the caller is. A note to a group comes to each
+-- child or, without RFPROC, the caller is the first of a new group. A note to a group comes to each
 -- process in it.
 use Rattle.std.specs.Prelude.{◌≡◌, ℕ, zero, suc, ◌+◌, ◌<◌, ◌≤◌, ◌==◌, ◌||◌, Bool, false}
 use Rattle.std.specs.Prelude.{if◌then◌else◌, List, [], ◌∷◌, ◌++◌, length, get_or, nat_lt, ⊤}

@@ -107,7 +107,7 @@ pub fn wakeups_can_be_broken()
         → ¬ (Wakes (after table []) (rendez 0) 1 (after table finds_nobody) (done_at 1 1)) }
 {}
 
-/// Refusals with no reason, and refusals after which there is one step more or the step of another
+/// Refusals with no reason, refusals after which there is one step more, and refusals of another
 /// call.
 pub fn refusals_can_be_broken()
     ensures sleep_is_worn { (words : Words) (table : TableId)

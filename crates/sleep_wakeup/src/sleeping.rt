@@ -29,9 +29,9 @@ impl<'k> Proc<'k> {
         self.sleep_probed(rt, rendez, threshold, &mut NoProbe)
     }
 
-    /// `sleep`, with a probe that is called at its points 1, before the process posts itself, 2,
-    /// before it tests, 3, before it looks, for a mark or notes or for a mark alone, 4, before it
-    /// withdraws, 5, before it clears its flags, and 6, after that.
+    /// `sleep`, with a probe that is called at its points: 1 before the process posts itself, 2
+    /// before it tests, 3 before it looks, for a mark or notes or for a mark alone, 4 before it
+    /// withdraws, 5 before it clears its flags, and 6 after that.
     pub fn sleep_probed<R: Wait, P: Probe>(
         &mut self,
         rt: &R,

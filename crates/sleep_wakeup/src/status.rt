@@ -66,13 +66,13 @@ pub struct Look<'r> {
 
 impl Kernel {
     /// Who waits where. Any thread may look while others run, also a thread with no process. Where
-    /// there is too little room for all, the room that there is is filled, from 0 on. Takes no
-    /// memory and doesn't wait.
+    /// there is too little room for all, all of the room is filled, from 0 on. Takes no memory and
+    /// doesn't wait.
     ///
     /// Each word is loaded by itself, one after another, so what a look sees is no single moment: a
-    /// process that runs may have gone on to another Rendez meanwhile. A process that hangs stays
-    /// as it is, so the look sees it as it is. A posted process is about to wait, waits, or is
-    /// about to leave.
+    /// process that runs may have gone on to another Rendez meanwhile. A process that is stuck
+    /// stays as it is, so the look sees it as it is. A posted process is about to wait, waits, or
+    /// is about to leave.
     pub fn look<'r>(&self, procs: &'r mut [ProcStatus], rendez: &'r mut [RendezStatus]) -> Look<'r>
         // As many as there are, or as there is room for, each at the place of its number.
         ensures procs { length result.procs.now ≡ min (length procs.old) (procs_of self.now) }

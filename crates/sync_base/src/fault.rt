@@ -53,7 +53,7 @@ pub enum Fault {
     /// The line with this number, counted from 1, is not in the grammar of the script.
     #[error("script fault at line {0}")]
     Script(u64),
-    /// The moment of a wait came before what it waited for.
+    /// The deadline of a wait came before what it waited for.
     #[error("timed out")]
     TimedOut,
     /// A reader, a writer or the start of a thread failed.

@@ -1,5 +1,5 @@
--- What rfork does to tag spaces, after fork(2): a child is in its parent's space. With RFREND the
--- child is the first in a new space or, where there is no child, the caller is. RFNOTEG does the
+-- What rfork does to tag spaces, after fork(2): a child is in its parent's space, but with RFREND
+-- the child or, where there is no child, the caller is the first in a new space. RFNOTEG does the
 -- same for note groups, independently.
 use Rattle.std.specs.Prelude.{◌≡◌, ◌⊎◌, ⊤, ℕ, if◌then◌else◌, IsTrue, Option, Some, None}
 use Rattle.kernel_lock.specs.Seats.{KnowsAllGiven}
@@ -94,7 +94,7 @@ HasChild unused space flags None = ¬ IsTrue (asks_child flags)
 HasChild unused space flags (Some (proc, member)) =
     IsTrue (asks_child flags) × (proc ≡ next_process unused) × IsMemberOf space member
 
--- What is left: a row fewer where a space was made, and a pid fewer where a child was made. With
+-- What is left: one row fewer where a space was made, one pid fewer where a child was made. With
 -- RFNOTEG the child is in a note group of its own or, where there is no child, the caller is.
 abbrev pub left_by : ℕ → Unused → TagSpace → Flags → Unused
 left_by parent unused space flags =

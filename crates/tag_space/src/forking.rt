@@ -57,7 +57,7 @@ pub struct NotForked {
 /// After fork(2): makes a child with RFPROC, and a new tag space with RFREND. A child is in its
 /// parent's space or, with RFREND, the first in a new one. With RFREND alone the caller is the
 /// first in the new space, and its old member is spent. A new space has as many members as the old
-/// one. With RFNOTEG a child is the first of a new note group; without RFPROC the caller is.
+/// one. With RFNOTEG a child or, without RFPROC, the caller is the first of a new note group.
 ///
 /// Refuses, in this order, as `BadFlags` for any other flag, `NoProc` where no pid is left,
 /// `NoRendez` where no row for a new space is left, `NoProc` where the old space has had all its

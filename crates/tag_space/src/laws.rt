@@ -62,9 +62,9 @@ pub fn interrupted_word()
     ensures { InterruptedIs }
 {}
 
-/// No call that waits stays posted once the call that found it has returned: a member that sleeps
-/// below the count of the meeting is released, and each number that it got to wait with is below
-/// that count.
+/// No call that waits stays posted once the call that found it has returned: a process that sleeps
+/// on its member's Rendez below the count of the meeting is released, and each number that the
+/// member got to wait with is below that count.
 pub fn who_is_found_is_released()
     ensures released { FindingReleasesThePartner }
     ensures above { WaitersAreFoundAbove }

@@ -82,9 +82,9 @@ impl TagSpace {
         answer
     }
 
-    /// A `rendezvous` that waits as its runner does. The probe is called at its points 2, before
-    /// each sleep for a partner, and 3, after it. Takes no memory. Own; rendezvous(2) waits as long
-    /// as it takes.
+    /// A `rendezvous` that waits as its runner does. The probe is called at its points: 2 before
+    /// and 3 after each sleep for a partner. Takes no memory. Own; rendezvous(2) waits as long as
+    /// it takes.
     ///
     /// Refuses as `Worn` as `rendezvous` does, and then as its runner does where it waits; a
     /// refused call is in no exchange, and nobody meets it later.

@@ -95,7 +95,7 @@ seat_named (Add seat pid deadline) = Some seat
 seat_named (Expire now) = None
 seat_named (Cancel seat) = Some seat
 
--- Own: the moment that many milliseconds after now, and at most the last moment.
+-- Own: the moment `ms` milliseconds after `now`, and at most the last moment.
 abbrev pub deadline_of : ℕ → ℕ → ℕ
 deadline_of now ms = min (now + ms) (2 ^ 64 - 1)
 

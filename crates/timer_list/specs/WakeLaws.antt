@@ -32,8 +32,8 @@ abbrev pub telling : Process → Pid → Entry
 telling teller pid =
     record { maker = teller.pid; event = Note pid (only Expired); answer = Noted }
 
--- This process posted that process the note of a tick, right after the steps that it had made, and
--- since then the note is pending, or that process took it.
+-- This process posted the note of a tick to that process, right after the steps that it had made,
+-- and since then the note is pending, or that process took it.
 pub record IsToldSince (run : List Entry) (teller : Process) (pid : Pid) : Type 0 where
   pub since : List Entry
   pub past : List Entry

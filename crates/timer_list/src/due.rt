@@ -2,7 +2,7 @@
 ghost use Rattle.std.specs.Prelude.{◌≡◌, IsTrue, ◌↔◌};
 ghost use Rattle.timer_list.specs.Due.{is_before, earlier_of};
 
-/// A timer that may expire: its seat, and the moment from which on.
+/// A timer that may expire: its seat, and the moment from which on a tick ends it.
 #[derive(Clone, Copy, Debug, PartialEq, Eq)]
 pub struct Due {
     pub deadline: u64,

@@ -15,7 +15,7 @@ use sync_base::{Fault, Pid};
 pub enum Timer {
     /// The seat has no timer, or its last timer was cancelled.
     Unset,
-    /// It expires at the first tick from the deadline on, and the process then gets the note.
+    /// It expires at the first tick from the deadline on: then the note is posted to the process.
     Set { pid: Pid, deadline: u64 },
     /// It expired, and was not cancelled since.
     Expired,
@@ -27,7 +27,7 @@ pub enum TimerCall {
     Add { seat: u64, pid: Pid, deadline: u64 },
     /// It is now this moment: ends the first timer whose deadline has come.
     Expire { now: u64 },
-    /// Takes the timer of a seat away, and asks whether it had expired.
+    /// Takes the timer of a seat away, and asks what became of it.
     Cancel { seat: u64 },
 }
 

@@ -78,9 +78,9 @@ impl<'t> Runner for Deadline<'t> {
 /// result by then, it is refused as `TimedOut` where a tick took its timer and no other note came,
 /// and else as `Interrupted` with the other notes. With any other answer, other notes that came are
 /// pending again. Where a tick has taken its timer, it waits for that tick's note before it
-/// answers, so that no late expiry reaches a later sleep. The probe is called at its points 2,
-/// before each sleep of the call, and 3, after it. It waits for the timers' lock. Takes no memory
-/// of its own.
+/// answers, so that no late expiry reaches a later sleep. The probe is called at its points: 2
+/// before each sleep of the call, and 3 after it. It waits for the timers' lock. Takes no memory of
+/// its own.
 pub fn wait_within<R: Wait, C: WaitingCall, P: Probe>(
     rt: &R,
     proc: &mut Proc<'_>,

@@ -29,7 +29,7 @@ as_long_as_it_takes =
 
 -- ---- as a call that waits as long as it takes
 
--- the two answers are the same result, or both are none
+-- the two answers are the same result, or neither is a result
 abbrev pub ComesToSame : {Out : Type 0} → Result Out Fault → Result Out Fault → Type 0
 ComesToSame (Ok one) (Ok other) = other ≡ one
 ComesToSame (Err why) (Err other) = ⊤

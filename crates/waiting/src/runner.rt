@@ -27,7 +27,7 @@ pub trait Runner {
     ghost runs: { Self → Runs Self.Timer };
 
     /// Runs the call, whose requests are lent this buffer, on this Rendez. The probe is called at
-    /// its points 2, before each sleep of the call, and 3, after it.
+    /// its points: 2 before each sleep of the call, and 3 after it.
     fn run<R: Wait, C: WaitingCall, P: Probe>(
         &self,
         rt: &R,

@@ -14,8 +14,8 @@ use sync_base::{Fault, Probe, RendezId};
 /// sleeps on this Rendez with the number of the last answer, and asks again. A sleep that notes
 /// ended, or that found another process on the Rendez, is the call's last: it leaves, and is
 /// refused with that fault. Where it had come to a result by then, it returns that result, and the
-/// notes are pending again. The probe is called at its points 2, before each sleep, and 3, after
-/// it. Takes no memory of its own.
+/// notes are pending again. The probe is called at its points: 2 before each sleep, and 3 after it.
+/// Takes no memory of its own.
 pub fn wait_for<R: Wait, C: WaitingCall, P: Probe>(
     rt: &R,
     proc: &mut Proc<'_>,
@@ -65,7 +65,7 @@ fn end_wait<T: Drop>(proc: &mut Proc<'_>, ending: WaitEnd<T>) -> Result<T, Fault
 /// How the sleeps of a call ended.
 #[derive(Drop)]
 pub enum WaitEnd<T> {
-    /// A request was answered with the call's result.
+    /// A request was answered with a result or a fault.
     Answered(Result<T, Fault>),
     /// A sleep failed with this fault, and the call left: the result that it had come to by then,
     /// if it had one.
