@@ -2,8 +2,8 @@
 use crate::caller::{Caller, Reply, run};
 use crate::looks::is_posted;
 use crate::progress::{Progress, Stops};
-use crate::scene::{Process, Scene, State, set};
-use plan9::{Fault, Note, NoteSet, Proc};
+use crate::scene::{Process, STRANGERS, Scene, State, set};
+use plan9::{Fault, Note, NoteSet};
 use scene_text::answer::{Answer, NOT_HERE};
 use scene_text::line::Call;
 use std::sync::Wait;
@@ -183,24 +183,19 @@ impl CalledOff {
     }
 }
 
-/// Sends a note to the process at this place, if its call runs still. Whether it does.
+/// Sends a note to the process at this place, if its call runs still. Whether it does. A stranger
+/// gets none: nobody of its kernel is here to send it.
 pub fn interrupt_at(scene: &mut Scene<'_>, at: usize) -> bool {
-    match scene.processes.get_mut(at) {
+    match scene.processes.get(at) {
         Some(process) if calls(process) => {
-            interrupt(&mut scene.zero, process);
+            if process.number < STRANGERS {
+                let pid = process.progress.pid;
+                let _ = scene.zero.postnote(pid, NoteSet::of(Note::Interrupt));
+            }
             true
         }
         _ => false,
     }
-}
-
-// Posts an interrupt to a process, from a process of the same kernel.
-fn interrupt(zero: &mut Proc<'static>, process: &mut Process) {
-    let sender = match &mut process.sender {
-        Some(sender) => sender,
-        None => zero,
-    };
-    let _ = sender.postnote(process.progress.pid, NoteSet::of(Note::Interrupt));
 }
 
 /// Ends each call that runs still, and lets it go at each point.

@@ -82,6 +82,7 @@ fn step<'t, R: Threads + Wait + Copy + Send + 'static>(
     let Some(answer) = play_again(rt, scene, line) else {
         return false;
     };
+    scene.is_left = line.call.verb == Verb::Left;
     let shown = Shown {
         told: scene.told.as_slice(),
         ..shown_of(&scene.processes, line.process.unwrap_or(0))
@@ -173,17 +174,20 @@ fn planned(plan: Plan, kind: &str, count: u64) -> Option<Plan> {
     }
 }
 
-// What runs still is called off; what even then doesn't end is told.
+// What runs still is called off, unless the last line has done so; what even then doesn't end is
+// told.
 fn end_scene<R: Threads + Wait + Copy + Send + 'static>(
     rt: &R,
     scene: &mut Option<Scene<'_>>,
     page: &mut Page,
 ) {
     if let Some(opened) = scene {
-        let off = leave(rt, opened);
-        if off.stuck > 0 {
-            page.put("left");
-            page.put_answer(off.answer(), Shown::nothing());
+        if !opened.is_left {
+            let off = leave(rt, opened);
+            if off.stuck > 0 {
+                page.put("left");
+                page.put_answer(off.answer(), Shown::nothing());
+            }
         }
     }
     set(scene, None);

@@ -23,13 +23,14 @@ pub enum State {
     Gone,
 }
 
+/// The number of the first stranger, which no pid has.
+pub const STRANGERS: u64 = 1024;
+
 /// A process of the scene. Its number is its pid, but for a stranger: those have a kernel of their
-/// own each, and the numbers that no pid has. A stranger's kernel has one more process, which sends
-/// it notes.
+/// own each, and the numbers that no pid has.
 #[derive(Drop)]
 pub struct Process {
     pub number: u64,
-    pub sender: Option<Proc<'static>>,
     pub progress: &'static Progress,
     pub state: State,
 }
@@ -49,6 +50,8 @@ pub struct Scene<'t> {
     /// The lines that are kept for points of a call, and what the last ones were answered.
     pub kept: KeptLines<'t>,
     pub told: Vec<u8>,
+    /// Whether the last line was `left`.
+    pub is_left: bool,
 }
 
 /// Keeps a value for as long as the program runs.
@@ -123,6 +126,7 @@ pub fn open<'t>(
         objects: Objects::new(alloc),
         kept: KeptLines::none(),
         told: Vec::new(alloc),
+        is_left: false,
     })
 }
 

@@ -4,8 +4,8 @@ use crate::lone::lone_at;
 use crate::objects::{Found, Objects, find, lay_hall};
 use crate::progress::Progress;
 use crate::scene::{
-    Process, Scene, Setup, State, begin, caller_at, caller_in, for_good, keep, process_in, push,
-    set,
+    Process, STRANGERS, Scene, Setup, State, begin, caller_at, caller_in, for_good, keep,
+    process_in, push, set,
 };
 use plan9::{
     Fault, Flags, ForkedGuest, Guest, Hall, Holder, Kernel, NoteSet, Pid, Proc, ReadEnd, Reader,
@@ -296,7 +296,7 @@ fn place<R: Wait>(
         Ok(taken) => seat_role(scene, pid, taken, role),
         Err(fault) => {
             let progress = Progress::new(scene.turns, scene.kernel, pid);
-            let _ = seat(scene, pid.0, progress, None, State::Gone);
+            let _ = seat(scene, pid.0, progress, State::Gone);
             Err(fault)
         }
     }
@@ -306,7 +306,7 @@ fn place<R: Wait>(
 fn seat_role(scene: &mut Scene<'_>, pid: Pid, role: Role, held: RoleAt) -> Result<Answer, Fault> {
     let progress = Progress::new(scene.turns, scene.kernel, pid);
     let state = here(scene.alloc, role, held);
-    seat(scene, pid.0, progress, None, state)
+    seat(scene, pid.0, progress, state)
 }
 
 // A process in its role, which has made no call yet.
@@ -329,12 +329,10 @@ fn seat(
     scene: &mut Scene<'_>,
     number: u64,
     progress: Progress,
-    sender: Option<Proc<'static>>,
     state: State,
 ) -> Result<Answer, Fault> {
     let process = Process {
         number,
-        sender,
         progress: keep(scene.alloc, progress)?,
         state,
     };
@@ -345,11 +343,8 @@ fn seat(
     }
 }
 
-/// The number of the first stranger, which no pid has.
-const STRANGERS: u64 = 1024;
-
-/// A process of a kernel of its own, in its role at an object of this one, and one more process of
-/// that kernel, which sends it notes. Where it is refused it has no place, and no number.
+/// A process of a kernel of its own, in its role at an object of this one. Where it is refused it
+/// has no place, and no number.
 pub fn seat_stranger<R: Wait>(
     rt: &R,
     scene: &mut Scene<'_>,
@@ -358,18 +353,13 @@ pub fn seat_stranger<R: Wait>(
     role: RoleAt,
 ) -> Result<Answer, Fault> {
     let made = begin(scene.alloc, Kernel::new(scene.alloc, procs, rendez));
-    let Setup {
-        kernel,
-        mut roster,
-        mut zero,
-    } = made?;
-    let sender = roster.rfork(&mut zero, Flags::RFPROC).unwrap_or(None);
+    let Setup { kernel, zero, .. } = made?;
     let taken = role_for(rt, scene, zero, role)?;
     let number = STRANGERS.saturating_add(scene.strangers);
     scene.strangers = scene.strangers.saturating_add(1);
     let progress = Progress::new(scene.turns, kernel, Pid(0));
     let state = here(scene.alloc, taken, role);
-    seat(scene, number, progress, sender, state)
+    seat(scene, number, progress, state)
 }
 
 // ---- roles

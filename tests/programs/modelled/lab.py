@@ -342,10 +342,12 @@ class Lab:
             for it in running:
                 if it.run.answer is None and it.proc.kernel is self.kernel:
                     self.kernel.post_notes(it.proc.pid, {"interrupt"})
-            if not self.run_until(lambda: all(it.run.answer is not None for it in running)):
-                return self.after_all_turns(f"stuck {sum(it.run.answer is None for it in running)}")
-            for it in running:
+            self.run_until(lambda: all(it.run.answer is not None for it in running))
+            ended = [it for it in running if it.run.answer is not None]
+            for it in ended:
                 it.run = None
+            if ended != running:
+                return self.after_all_turns(f"stuck {len(running) - len(ended)}")
             count += len(running)
         return f"called off {count}"
 
