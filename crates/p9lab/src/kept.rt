@@ -2,7 +2,7 @@
 use crate::calling::{CalledOff, Until, call_off, comes, ending, interrupt_at, outcome};
 use crate::lines::{Step, begin};
 use crate::progress::{Progress, Stops};
-use crate::scene::{Scene, place_of, set, shown_of};
+use crate::scene::{STRANGERS, Scene, place_of, set, shown_of};
 use plan9::Fault;
 use scene_text::answer::{Answer, OK};
 use scene_text::line::{Line, line_of};
@@ -247,21 +247,49 @@ fn told_in(scene: &mut Scene<'_>, number: u64, answer: Answer) -> Answer {
 // ---- the end of a scene
 
 /// Ends each call that runs still by a note. The lines of the last call are played where it comes
-/// to their points.
+/// to their points; a call that one of them starts is ended as well.
 pub fn leave<R: Threads + Wait + Copy + Send + 'static>(
     rt: &R,
     scene: &mut Scene<'_>,
 ) -> CalledOff {
     let mut off = CalledOff::none();
+    for _ in 0..usize::MAX {
+        let before = off.ended;
+        off.stuck = 0;
+        end_calls(rt, scene, false, &mut off);
+        if off.ended == before {
+            end_calls(rt, scene, true, &mut off);
+        }
+        if off.ended == before {
+            break;
+        }
+    }
+    off
+}
+
+// Ends each call that runs by now, of the strangers or of the others, in the order of their places.
+fn end_calls<R: Threads + Wait + Copy + Send + 'static>(
+    rt: &R,
+    scene: &mut Scene<'_>,
+    strangers: bool,
+    off: &mut CalledOff,
+) {
     for at in 0..usize::MAX {
         if at >= scene.processes.len() {
             break;
         }
-        if interrupt_at(scene, at) {
+        if is_stranger(scene, at) == strangers && interrupt_at(scene, at) {
             let came = comes_served(rt, scene, at, Until::Ends);
             ending(rt, scene, at, Until::Ends, came);
             off.count(came);
         }
     }
-    off
+}
+
+// Whether a stranger has this place.
+fn is_stranger(scene: &Scene<'_>, at: usize) -> bool {
+    match scene.processes.get(at) {
+        Some(process) => process.number >= STRANGERS,
+        None => false,
+    }
 }
