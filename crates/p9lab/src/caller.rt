@@ -4,20 +4,24 @@ use crate::progress::{Progress, Stops, Visitor};
 use crate::roles::{call_guest, call_holder, call_plain, call_reader, call_sharer, call_writer};
 use plan9::{Guest, Holder, NoProbe, Probe, Proc, Reader, Sharer, Watch, Writer};
 use scene_text::answer::{Answer, NO_CLOCK, NOT_HERE, Visit};
-use scene_text::line::{Call, RoleAt};
-use scene_text::verbs::Verb;
+use scene_text::verbs::{Call, RoleAt};
 use std::alloc::Global;
 use std::sync::Wait;
+
+/// A process of the library, and a member of a tag space, as a scene has them.
+pub type OwnProc = Proc<'static>;
+
+pub type Member = Guest<'static, 'static>;
 
 /// Who a process is.
 #[derive(Drop)]
 pub enum Role {
-    Plain(Proc<'static>),
+    Plain(OwnProc),
     Reader(Reader<'static, 'static>),
     Writer(Writer<'static, 'static>),
     Holder(Holder<'static, 'static>),
     /// None while it rforks.
-    Guest(Option<Guest<'static, 'static>>),
+    Guest(Option<Member>),
     Sharer(Sharer<'static, 'static, 'static>),
     Lone(Lone),
 }
@@ -48,8 +52,8 @@ pub struct Reply {
 }
 
 /// A call on a thread. That it has ended is told last.
-pub fn run<R: Wait>(
-    rt: &R,
+pub fn run(
+    rt: &impl Wait,
     mut caller: Caller,
     call: Call,
     stops: Stops,
@@ -61,8 +65,8 @@ pub fn run<R: Wait>(
 }
 
 // A call of its role. Where it is probed the thread stands at its points.
-fn answer_to<R: Wait>(
-    rt: &R,
+fn answer_to(
+    rt: &impl Wait,
     caller: &mut Caller,
     call: Call,
     stops: Stops,
@@ -78,7 +82,7 @@ fn answer_to<R: Wait>(
         return make_call(rt, role, means, call, &mut NoProbe);
     }
     visits.clear();
-    if !takes_probe(role, call.verb) {
+    if !takes_probe(role, call) {
         return Answer::Word("not probed");
     }
     let mut probe = Visitor {
@@ -90,24 +94,32 @@ fn answer_to<R: Wait>(
 }
 
 // Whether this call of a role takes a probe.
-fn takes_probe(role: &Role, verb: Verb) -> bool {
+fn takes_probe(role: &Role, call: Call) -> bool {
     match role {
-        Role::Plain(_) | Role::Reader(_) | Role::Writer(_) => verb == Verb::Sleep,
+        Role::Plain(_) | Role::Reader(_) | Role::Writer(_) => matches!(call, Call::Sleep(_, _)),
         Role::Holder(_) => {
-            verb == Verb::Acquire || verb == Verb::TryAcquire || verb == Verb::AcquireWithin
+            matches!(
+                call,
+                Call::Acquire | Call::TryAcquire | Call::AcquireWithin(_)
+            )
         }
-        Role::Guest(_) => verb == Verb::Rendezvous || verb == Verb::RendezvousWithin,
+        Role::Guest(_) => {
+            matches!(
+                call,
+                Call::Rendezvous(_, _) | Call::RendezvousWithin(_, _, _)
+            )
+        }
         Role::Sharer(_) | Role::Lone(_) => false,
     }
 }
 
 // A call of a role with this probe.
-fn make_call<R: Wait, P: Probe>(
-    rt: &R,
+fn make_call(
+    rt: &impl Wait,
     role: &mut Role,
     means: &mut Means,
     call: Call,
-    probe: &mut P,
+    probe: &mut impl Probe,
 ) -> Answer {
     let answer = match role {
         Role::Plain(proc) => call_plain(rt, proc, means, call, probe),

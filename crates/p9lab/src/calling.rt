@@ -1,11 +1,10 @@
 //! A call on a thread of its own: how it starts, how it is awaited, and how it ends.
 use crate::caller::{Caller, Reply, run};
-use crate::looks::is_posted;
 use crate::progress::{Progress, Stops};
-use crate::scene::{Process, STRANGERS, Scene, State, set};
+use crate::scene::{Host, Process, STRANGERS, Scene, State, set};
 use plan9::{Fault, Note, NoteSet};
 use scene_text::answer::{Answer, NOT_HERE};
-use scene_text::line::Call;
+use scene_text::verbs::Call;
 use std::sync::Wait;
 use std::thread::{JoinHandle, Threads, yield_now};
 use std::{mem, thread};
@@ -37,8 +36,8 @@ fn start_call<R: Threads + Wait + Copy + Send + 'static>(
 }
 
 /// Starts a call of a process, if it is here; else it says why not.
-pub fn start<R: Threads + Wait + Copy + Send + 'static>(
-    rt: &R,
+pub fn start(
+    rt: &impl Host,
     process: &mut Process,
     call: Call,
     stops: Stops,
@@ -68,14 +67,11 @@ fn started(process: &Process) -> Result<(), Answer> {
 
 // Whether its call runs on a thread.
 fn calls(process: &Process) -> bool {
-    match &process.state {
-        State::Calls(_) => true,
-        _ => false,
-    }
+    matches!(&process.state, State::Calls(_))
 }
 
 // The answer of a call that has ended. The process is here again.
-fn join<R: Threads + Wait>(rt: &R, process: &mut Process) -> Answer {
+fn join(rt: &impl Host, process: &mut Process) -> Answer {
     match call_of(&mut process.state) {
         Some(handle) => come_back(&mut process.state, handle.join(rt)),
         None => Answer::Word("not started"),
@@ -102,13 +98,13 @@ fn call_of(state: &mut State) -> Option<JoinHandle<Reply>> {
 
 /// Whether what is awaited came to be so, if that can be told by now: who makes no call doesn't
 /// wait.
-pub fn outcome(scene: &mut Scene<'_>, at: usize, until: Until) -> Option<bool> {
+pub fn outcome(scene: &mut Scene, at: usize, until: Until) -> Option<bool> {
     let Some(process) = scene.processes.get(at) else {
         return Some(false);
     };
     let runs = process.progress.runs();
     match until {
-        Until::Waits if is_posted(process.progress, &mut scene.statuses) => Some(true),
+        Until::Waits if process.progress.waits(scene.statuses.as_mut_slice()) => Some(true),
         Until::Waits if runs => None,
         Until::Waits => Some(false),
         _ if !runs => Some(true),
@@ -122,7 +118,7 @@ pub fn outcome(scene: &mut Scene<'_>, at: usize, until: Until) -> Option<bool> {
 }
 
 /// Whether it comes to be so, within so many turns.
-pub fn comes(scene: &mut Scene<'_>, at: usize, until: Until) -> bool {
+pub fn comes(scene: &mut Scene, at: usize, until: Until) -> bool {
     for _ in 0..scene.turns {
         if let Some(came) = outcome(scene, at, until) {
             return came;
@@ -133,13 +129,7 @@ pub fn comes(scene: &mut Scene<'_>, at: usize, until: Until) -> bool {
 }
 
 /// What `waits` or `ends` is answered, or a call that was awaited.
-pub fn ending<R: Threads + Wait>(
-    rt: &R,
-    scene: &mut Scene<'_>,
-    at: usize,
-    until: Until,
-    came: bool,
-) -> Answer {
+pub fn ending(rt: &impl Host, scene: &mut Scene, at: usize, until: Until, came: bool) -> Answer {
     if until == Until::Waits {
         return Answer::Word(if came { "yes" } else { "no" });
     }
@@ -185,7 +175,7 @@ impl CalledOff {
 
 /// Sends a note to the process at this place, if its call runs still. Whether it does. A stranger
 /// gets none: nobody of its kernel is here to send it.
-pub fn interrupt_at(scene: &mut Scene<'_>, at: usize) -> bool {
+pub fn interrupt_at(scene: &mut Scene, at: usize) -> bool {
     match scene.processes.get(at) {
         Some(process) if calls(process) => {
             if process.number < STRANGERS {
@@ -199,7 +189,7 @@ pub fn interrupt_at(scene: &mut Scene<'_>, at: usize) -> bool {
 }
 
 /// Ends each call that runs still, and lets it go at each point.
-pub fn call_off<R: Threads + Wait>(rt: &R, scene: &mut Scene<'_>) -> CalledOff {
+pub fn call_off(rt: &impl Host, scene: &mut Scene) -> CalledOff {
     let mut off = CalledOff::none();
     for at in 0..scene.processes.len() {
         if interrupt_at(scene, at) {

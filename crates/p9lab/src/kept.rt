@@ -2,15 +2,14 @@
 use crate::calling::{CalledOff, Until, call_off, comes, ending, interrupt_at, outcome};
 use crate::lines::{Step, begin};
 use crate::progress::{Progress, Stops};
-use crate::scene::{STRANGERS, Scene, place_of, set, shown_of};
+use crate::scene::{Host, STRANGERS, Scene, place_of, set, shown_of};
 use plan9::Fault;
 use scene_text::answer::{Answer, OK};
 use scene_text::line::{Line, line_of};
 use scene_text::told::tell_answer;
 use scene_text::verbs::Verb;
 use scene_text::words::number_of;
-use std::sync::Wait;
-use std::thread::{Threads, yield_now};
+use std::thread::yield_now;
 
 /// How many lines a call may have.
 pub const LINES: usize = 8;
@@ -99,25 +98,21 @@ impl<'t> KeptLines<'t> {
 
     // The line with this number, counted from 1.
     fn row(&self, number: u64) -> Option<KeptLine> {
-        for (at, row) in self.rows.iter().enumerate() {
-            if at < self.count && at as u64 + 1 == number {
-                return Some(*row);
-            }
+        let at = number.checked_sub(1)? as usize;
+        if at < self.count {
+            self.rows.get(at).copied()
+        } else {
+            None
         }
-        None
     }
 }
 
 /// Plays a line. One that is none has no answer.
-pub fn play<'t, R: Threads + Wait + Copy + Send + 'static>(
-    rt: &R,
-    scene: &mut Scene<'t>,
-    line: &Line<'t>,
-) -> Option<Answer> {
-    match line.call.verb {
-        Verb::At => keep_line(scene, line.call.first, line.text),
-        Verb::Acted => {
-            let row = scene.kept.row(line.call.first)?;
+pub fn play<'t>(rt: &impl Host, scene: &mut Scene<'t>, line: &Line<'t>) -> Option<Answer> {
+    match line.verb {
+        Verb::At(point, text) => keep_line(scene, point, text),
+        Verb::Acted(number) => {
+            let row = scene.kept.row(number)?;
             Some(row.answer.unwrap_or(Answer::Word("not reached")))
         }
         _ => match begin(rt, scene, line)? {
@@ -153,7 +148,7 @@ fn keep_line<'t>(scene: &mut Scene<'t>, point: u64, text: &'t str) -> Option<Ans
 }
 
 // Forgets the lines of the last call. They stay while it runs and has some still to come.
-fn begin_anew(scene: &mut Scene<'_>) -> bool {
+fn begin_anew(scene: &mut Scene) -> bool {
     let Some(owner) = scene.kept.owner else {
         return true;
     };
@@ -167,12 +162,7 @@ fn begin_anew(scene: &mut Scene<'_>) -> bool {
 }
 
 // Whether it comes to be so, within so many turns. Whatever call stands at a point is served.
-fn comes_served<R: Threads + Wait + Copy + Send + 'static>(
-    rt: &R,
-    scene: &mut Scene<'_>,
-    at: usize,
-    until: Until,
-) -> bool {
+fn comes_served(rt: &impl Host, scene: &mut Scene, at: usize, until: Until) -> bool {
     for _ in 0..scene.turns {
         serve(rt, scene);
         if let Some(came) = outcome(scene, at, until) {
@@ -184,7 +174,7 @@ fn comes_served<R: Threads + Wait + Copy + Send + 'static>(
 }
 
 // Plays the lines of the point at which the call stands, and lets it go.
-fn serve<R: Threads + Wait + Copy + Send + 'static>(rt: &R, scene: &mut Scene<'_>) {
+fn serve(rt: &impl Host, scene: &mut Scene) {
     let Some(progress) = owner(scene) else {
         return;
     };
@@ -204,17 +194,13 @@ fn serve<R: Threads + Wait + Copy + Send + 'static>(rt: &R, scene: &mut Scene<'_
 }
 
 // How far the call is that has the lines.
-fn owner(scene: &Scene<'_>) -> Option<&'static Progress> {
+fn owner(scene: &Scene) -> Option<&'static Progress> {
     Some(scene.processes.get(scene.kept.owner?)?.progress)
 }
 
 // Plays a kept line, and tells its answer among the scene's texts as it is then: a later call has
 // other bytes.
-fn play_kept<'t, R: Threads + Wait + Copy + Send + 'static>(
-    rt: &R,
-    scene: &mut Scene<'t>,
-    text: &'t str,
-) -> Answer {
+fn play_kept<'t>(rt: &impl Host, scene: &mut Scene<'t>, text: &'t str) -> Answer {
     if text.split_whitespace().next().is_none() {
         return told_in(scene, 0, OK);
     }
@@ -234,13 +220,12 @@ fn play_kept<'t, R: Threads + Wait + Copy + Send + 'static>(
 }
 
 // The answer of a line of this process, among the scene's texts.
-fn told_in(scene: &mut Scene<'_>, number: u64, answer: Answer) -> Answer {
+fn told_in(scene: &mut Scene, number: u64, answer: Answer) -> Answer {
     let from = scene.told.len();
     let shown = shown_of(&scene.processes, number);
-    if tell_answer(&mut scene.told, answer, shown) {
-        Answer::Told(from, scene.told.len())
-    } else {
-        Answer::Fault(Fault::Memory)
+    match tell_answer(&mut scene.told, answer, shown) {
+        Ok(()) => Answer::Told(from, scene.told.len()),
+        Err(_) => Answer::Fault(Fault::Memory),
     }
 }
 
@@ -248,10 +233,7 @@ fn told_in(scene: &mut Scene<'_>, number: u64, answer: Answer) -> Answer {
 
 /// Ends each call that runs still by a note. The lines of the last call are played where it comes
 /// to their points; a call that one of them starts is ended as well.
-pub fn leave<R: Threads + Wait + Copy + Send + 'static>(
-    rt: &R,
-    scene: &mut Scene<'_>,
-) -> CalledOff {
+pub fn leave(rt: &impl Host, scene: &mut Scene) -> CalledOff {
     let mut off = CalledOff::none();
     for _ in 0..usize::MAX {
         let before = off.ended;
@@ -268,12 +250,7 @@ pub fn leave<R: Threads + Wait + Copy + Send + 'static>(
 }
 
 // Ends each call that runs by now, of the strangers or of the others, in the order of their places.
-fn end_calls<R: Threads + Wait + Copy + Send + 'static>(
-    rt: &R,
-    scene: &mut Scene<'_>,
-    strangers: bool,
-    off: &mut CalledOff,
-) {
+fn end_calls(rt: &impl Host, scene: &mut Scene, strangers: bool, off: &mut CalledOff) {
     for at in 0..usize::MAX {
         if at >= scene.processes.len() {
             break;
@@ -287,7 +264,7 @@ fn end_calls<R: Threads + Wait + Copy + Send + 'static>(
 }
 
 // Whether a stranger has this place.
-fn is_stranger(scene: &Scene<'_>, at: usize) -> bool {
+fn is_stranger(scene: &Scene, at: usize) -> bool {
     match scene.processes.get(at) {
         Some(process) => process.number >= STRANGERS,
         None => false,

@@ -1,18 +1,17 @@
 //! What a line does, up to what it waits for.
 use crate::calling::{Until, start};
 use crate::lone::make_lone;
-use crate::looks::{level_of, look_answer};
 use crate::objects::{index_of, make_clock, make_group, make_pipe, make_sema, make_space, share};
+use crate::progress::status_of;
 use crate::roles::call_at_once;
-use crate::scene::{Scene, State, caller_at, place_of, set};
+use crate::scene::{Host, Scene, State, caller_at, place_of, set};
 use crate::seating::{fork, fork_holder, note_group, rfork_alone, seat_stranger};
-use plan9::{Fault, Flags, Mode, RendezId};
-use scene_text::answer::{Answer, NO_CLOCK, NOT_HERE, OK, numbered};
-use scene_text::line::{Call, Line};
-use scene_text::verbs::Verb;
+use plan9::{Fault, Flags, RendezId, RendezStatus};
+use scene_text::answer::{Answer, Came, NO_CLOCK, NOT_HERE, OK, numbered};
+use scene_text::line::Line;
+use scene_text::verbs::{Call, Verb};
 use scene_text::words::fill;
 use std::sync::Wait;
-use std::thread::Threads;
 
 /// What a line came to.
 #[derive(Clone, Copy)]
@@ -25,35 +24,30 @@ pub enum Step {
 }
 
 /// Begins a line. One that is none comes to nothing.
-pub fn begin<R: Threads + Wait + Copy + Send + 'static>(
-    rt: &R,
-    scene: &mut Scene<'_>,
-    line: &Line<'_>,
-) -> Option<Step> {
-    let verb = line.call.verb;
+pub fn begin(rt: &impl Host, scene: &mut Scene, line: &Line) -> Option<Step> {
     let number = line.process.unwrap_or(0);
-    if verb == Verb::Left {
-        return Some(Step::CallsOff);
-    }
-    if number == 0 {
-        return Some(answered(answer(rt, scene, 0, line)?));
-    }
-    let at = place_of(&scene.processes, number)?;
-    match verb {
-        Verb::Waits => Some(Step::Awaits(at, Until::Waits)),
-        Verb::Ends => Some(Step::Awaits(at, Until::Ends)),
-        _ if line.is_call => Some(begin_call(rt, scene, at, line)),
-        Verb::Points => Some(Step::Answered(seen(scene, at, Answer::Points))),
-        Verb::Posted => Some(Step::Answered(seen(scene, at, Answer::Posted))),
-        Verb::TakeSeat => Some(answered(take_seat(rt, scene, at, line.call.object))),
-        Verb::Fork | Verb::Rfork | Verb::NoteGroup
-            if caller_at(&mut scene.processes, at).is_none() => { Some(Step::Answered(NOT_HERE)) }
-        _ => Some(answered(answer(rt, scene, number, line)?)),
-    }
+    let at = if number > 0 {
+        place_of(&scene.processes, number)?
+    } else {
+        usize::MAX
+    };
+    Some(match line.verb {
+        Verb::Left => Step::CallsOff,
+        verb if number == 0 => answered(answer(rt, scene, 0, verb)?),
+        Verb::Waits => Step::Awaits(at, Until::Waits),
+        Verb::Ends => Step::Awaits(at, Until::Ends),
+        Verb::Makes(call, bytes) => begin_call(rt, scene, at, call, bytes, line.apart),
+        Verb::Look => Step::Answered(look_answer(scene, number)),
+        Verb::TakeSeat(object) => answered(take_seat(rt, scene, at, object)),
+        _ if caller_at(&mut scene.processes, at).is_none() => Step::Answered(NOT_HERE),
+        Verb::Points => Step::Answered(Answer::Points),
+        Verb::Posted => Step::Answered(Answer::Posted),
+        verb => answered(answer(rt, scene, number, verb)?),
+    })
 }
 
 // What a line came to that waits for nothing.
-fn answered(came: Result<Answer, Fault>) -> Step {
+fn answered(came: Came) -> Step {
     match came {
         Ok(answer) => Step::Answered(answer),
         Err(fault) => Step::Answered(Answer::Fault(fault)),
@@ -61,48 +55,29 @@ fn answered(came: Result<Answer, Fault>) -> Step {
 }
 
 // A line that makes an object or a process, or shows something; and each call of process 0.
-fn answer<R: Wait>(
-    rt: &R,
-    scene: &mut Scene<'_>,
-    number: u64,
-    line: &Line<'_>,
-) -> Option<Result<Answer, Fault>> {
-    let Call {
-        verb,
-        first,
-        second,
-        count,
-        notes,
-        ..
-    } = line.call;
+fn answer(rt: &impl Wait, scene: &mut Scene, number: u64, verb: Verb<'_>) -> Option<Came> {
     Some(match verb {
-        _ if line.is_call => Ok(call_at_once(&mut scene.zero, line.call)),
-        Verb::Pipe => make_pipe(scene, first, second, Mode::Message),
-        Verb::Stream => make_pipe(scene, first, second, Mode::Stream),
-        Verb::Lone => make_lone(scene, first, Mode::Message),
-        Verb::LoneStream => make_lone(scene, first, Mode::Stream),
-        Verb::Share => share(scene, line.call.object, first),
-        Verb::Sema => make_sema(scene, count, first),
-        Verb::Clock => make_clock(scene, first),
-        Verb::Space => make_space(scene, first),
-        Verb::NewGroup => make_group(scene, first),
-        Verb::Stranger => seat_stranger(rt, scene, first, second, line.call.role?),
-        Verb::Fork => match line.call.role {
-            Some(role) => fork(rt, scene, number, Flags::RFPROC, role),
-            None => fork_holder(rt, scene, number),
-        },
-        Verb::Rfork => match line.call.role {
-            Some(role) => fork(rt, scene, number, line.call.flags, role),
-            None => rfork_alone(rt, scene, number, line.call.flags),
-        },
-        Verb::NoteGroup => Ok(note_group(scene, number, first, notes)),
+        Verb::Makes(call, _) => Ok(call_at_once(&mut scene.zero, call)),
+        Verb::Pipe(mode, limit, writers) => make_pipe(scene, mode, limit, writers),
+        Verb::Lone(mode, limit) => make_lone(scene, mode, limit),
+        Verb::Share(procs, object) => share(scene, object, procs),
+        Verb::Sema(units, seats) => make_sema(scene, units, seats),
+        Verb::Clock(seats) => make_clock(scene, seats),
+        Verb::Space(members) => make_space(scene, members),
+        Verb::NewGroup(object) => make_group(scene, object),
+        Verb::Stranger(procs, rendez, role) => seat_stranger(rt, scene, procs, rendez, role),
+        Verb::Fork(Some(role)) => fork(rt, scene, number, Flags::RFPROC, role),
+        Verb::Fork(None) => fork_holder(rt, scene, number),
+        Verb::Rfork(flags, Some(role)) => fork(rt, scene, number, flags, role),
+        Verb::Rfork(flags, None) => rfork_alone(rt, scene, number, flags),
+        Verb::NoteGroup(pid, notes) => Ok(note_group(scene, number, pid, notes)),
         Verb::GiveRendez => Ok(given(scene.roster.rendez())),
-        Verb::GiveRow => Ok(given(scene.roster.row(first))),
+        Verb::GiveRow(count) => Ok(given(scene.roster.row(count))),
         Verb::PidsLeft => Ok(Answer::Number("pids", scene.roster.left().0)),
         Verb::RendezLeft => Ok(Answer::Number("rendez", scene.roster.left().1)),
-        Verb::TickAt => Ok(tick(rt, scene, first, line.call.object)),
+        Verb::TickAt(now, object) => Ok(tick(rt, scene, now, object)),
         Verb::Look => Ok(look_answer(scene, number)),
-        Verb::Level => Ok(level_of(scene, first)?),
+        Verb::Level(rendez) => Ok(level_of(scene, rendez)?),
         _ => return None,
     })
 }
@@ -113,30 +88,46 @@ fn given(made: Result<RendezId, Fault>) -> Answer {
 }
 
 // `0 tick NOW K`: a tick of process 0.
-fn tick<R: Wait>(rt: &R, scene: &mut Scene<'_>, now: u64, object: u64) -> Answer {
+fn tick(rt: &impl Wait, scene: &mut Scene, now: u64, object: u64) -> Answer {
     match scene.objects.clocks.get_mut(index_of(object)) {
         Some(watch) => Answer::Number("expired", watch.tick(rt, &mut scene.zero, now)),
         None => NO_CLOCK,
     }
 }
 
-// ---- the others
-
-// What is seen of a process that is here.
-fn seen(scene: &mut Scene<'_>, at: usize, answer: Answer) -> Answer {
-    match caller_at(&mut scene.processes, at) {
-        Some(_) => answer,
-        None => NOT_HERE,
+// How the process with this number stands.
+fn look_answer(scene: &mut Scene, number: u64) -> Answer {
+    let at = place_of(&scene.processes, number).unwrap_or(usize::MAX);
+    let (kernel, pid) = match scene.processes.get(at) {
+        Some(process) => (process.progress.kernel, process.progress.pid.0),
+        None => (scene.kernel, number),
+    };
+    match status_of(kernel, scene.statuses.as_mut_slice(), pid) {
+        Some(status) => Answer::Status(status),
+        None => Answer::Fault(Fault::NoProc),
     }
 }
 
+// How a Rendez of the scene's kernel stands. One that is none has no answer.
+fn level_of(scene: &Scene, rendez: u64) -> Option<Answer> {
+    if rendez >= scene.kernel.rendez_count() {
+        return None;
+    }
+    let mut seen = Vec::new(scene.alloc);
+    for _ in 0..=rendez {
+        if seen.push(RendezStatus::default()).is_err() {
+            return Some(Answer::Fault(Fault::Memory));
+        }
+    }
+    let look = scene.kernel.look(&mut [], seen.as_mut_slice());
+    let status = look.rendez.get(rendez as usize).copied()?;
+    Some(Answer::Level(status))
+}
+
+// ---- the others
+
 // `N clock K`: the process takes a seat at timers.
-fn take_seat<R: Wait>(
-    rt: &R,
-    scene: &mut Scene<'_>,
-    at: usize,
-    object: u64,
-) -> Result<Answer, Fault> {
+fn take_seat(rt: &impl Wait, scene: &mut Scene, at: usize, object: u64) -> Came {
     let Some(clock) = scene.objects.clocks.get_mut(index_of(object)) else {
         return Ok(NO_CLOCK);
     };
@@ -149,27 +140,28 @@ fn take_seat<R: Wait>(
 }
 
 // Starts a call, with the bytes that it writes. It gets the lines that are kept for the next one.
-fn begin_call<R: Threads + Wait + Copy + Send + 'static>(
-    rt: &R,
-    scene: &mut Scene<'_>,
+fn begin_call(
+    rt: &impl Host,
+    scene: &mut Scene,
     at: usize,
-    line: &Line<'_>,
+    call: Call,
+    bytes: &str,
+    apart: bool,
 ) -> Step {
     let Some(process) = scene.processes.get_mut(at) else {
         return Step::Answered(NOT_HERE);
     };
     if let State::Here(caller) = &mut process.state {
-        if !line.text.is_empty() && !fill(&mut caller.means.bytes, line.text) {
+        if !bytes.is_empty() && !fill(&mut caller.means.bytes, bytes) {
             return Step::Answered(Answer::Fault(Fault::Memory));
         }
     }
-    if let Err(why) = start(rt, process, line.call, scene.kept.next_stops()) {
+    if let Err(why) = start(rt, process, call, scene.kept.next_stops()) {
         return Step::Answered(why);
     }
     scene.kept.take(at);
-    if line.apart {
-        Step::Answered(Answer::Word("started"))
-    } else {
-        Step::Awaits(at, Until::Ends)
+    if apart {
+        return Step::Answered(Answer::Word("started"));
     }
+    Step::Awaits(at, Until::Ends)
 }

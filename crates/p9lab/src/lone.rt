@@ -7,19 +7,22 @@ ghost use Rattle.pipe_dev.specs.Ends.{AreAllEnds, IsSameReadEnd, IsSameWriteEnd}
 ghost use Rattle.pipe_dev.specs.Openings.{IsStartOf};
 
 use crate::caller::Means;
-use crate::objects::{has_room, index_of, open_pipe};
+use crate::objects::{add, index_of, open_pipe};
 use crate::roles::{call_plain, make_room};
-use crate::scene::{Scene, keep, push};
+use crate::scene::{Scene, keep};
 use counted_slot::{Counted, FREE, Fits, TAKEN};
 use plan9::{
     Ends, Fault, Held, Long, Mode, NoProbe, OpenedPipe, Parts, Pipe, PipeStart, Proc, ReadEnd,
     Unfinished, WriteEnd, finish,
 };
-use scene_text::answer::{Answer, NOT_HERE, OK, have_read, have_tried, have_written, numbered};
-use scene_text::line::Call;
-use scene_text::told::{tell, tell_bytes, tell_number};
-use scene_text::verbs::Verb;
+use scene_text::answer::{
+    Answer, Came, NOT_HERE, OK, have_read, have_tried, have_written, numbered,
+};
+use scene_text::told::tell_bytes;
+use scene_text::verbs::Call;
 use std::alloc::Global;
+use std::io;
+use std::io::Write;
 use std::snapshot::Snapshot;
 use std::sync::Wait;
 use std::thread::yield_now;
@@ -76,10 +79,10 @@ pub struct Lone {
 // ---- how it is made
 
 /// A pipe with one writer, of whose first direction both ends lie between calls.
-pub fn make_lone(scene: &mut Scene<'_>, limit: u64, mode: Mode) -> Result<Answer, Fault> {
-    let opened = open_pipe(scene.alloc, &mut scene.roster, limit, 1, mode)?;
+pub fn make_lone(scene: &mut Scene, mode: Mode, limit: u64) -> Came {
+    let opened = open_pipe(scene.alloc, &mut scene.roster, mode, limit, 1)?;
     let both = kept_both(scene.alloc, opened)?;
-    has_room(push(&mut scene.objects.lones, LonePipe { both }))
+    add(&mut scene.objects.lones, LonePipe { both })
 }
 
 /// Each process at the direction may call at both of its ends.
@@ -154,30 +157,25 @@ fn swap<X: Fits + Drop, R: Wait>(rt: &R, place: &Counted<Option<X>>, lying: Opti
 }
 
 /// A call of a lone.
-pub fn call_lone<R: Wait>(
-    rt: &R,
-    lone: &mut Lone,
-    means: &mut Means,
-    call: Call,
-) -> Option<Answer> {
+pub fn call_lone(rt: &impl Wait, lone: &mut Lone, means: &mut Means, call: Call) -> Option<Answer> {
     let Means { alloc, bytes, .. } = means;
-    Some(match call.verb {
-        Verb::Read | Verb::TryRead if !make_room(bytes, call.first) => {
+    Some(match call {
+        Call::Read(_) | Call::TryRead(_) if !make_room(bytes, call) => {
             Answer::Fault(Fault::Memory)
         }
-        Verb::Read | Verb::TryRead | Verb::ReadBlock | Verb::HangupRead => {
+        Call::Read(_) | Call::TryRead(_) | Call::ReadBlock | Call::HangupRead => {
             at_read_end(rt, lone, bytes, call)
         }
-        Verb::Write | Verb::WriteLong | Verb::HangupWrite => {
+        Call::Write | Call::WriteLong | Call::HangupWrite => {
             at_write_end(rt, *alloc, lone, bytes.as_slice(), call)
         }
-        Verb::Finish => finish_both(rt, *alloc, lone.both, bytes),
+        Call::Finish => finish_both(rt, *alloc, lone.both, bytes),
         _ => return call_plain(rt, &mut lone.proc, means, call, &mut NoProbe),
     })
 }
 
 // A call at the read end, which is taken up for it.
-fn at_read_end<R: Wait>(rt: &R, lone: &mut Lone, bytes: &mut Vec<u8>, call: Call) -> Answer {
+fn at_read_end(rt: &impl Wait, lone: &mut Lone, bytes: &mut Vec<u8>, call: Call) -> Answer {
     let Some(LyingRead { mut end }) = swap(rt, &lone.both.read, None) else {
         return NOT_HERE;
     };
@@ -187,19 +185,19 @@ fn at_read_end<R: Wait>(rt: &R, lone: &mut Lone, bytes: &mut Vec<u8>, call: Call
 }
 
 // A call of the read end.
-fn call_read_end<R: Wait>(
-    rt: &R,
-    proc: &mut Proc<'_>,
-    end: &mut ReadEnd<'_>,
+fn call_read_end(
+    rt: &impl Wait,
+    proc: &mut Proc,
+    end: &mut ReadEnd,
     bytes: &mut Vec<u8>,
     call: Call,
 ) -> Answer
     ensures { IsSameReadEnd end.old end.new }
 {
-    match call.verb {
-        Verb::Read => have_read(end.read(rt, proc, bytes.as_mut_slice())),
-        Verb::TryRead => have_tried(end.try_read(proc, bytes.as_mut_slice())),
-        Verb::ReadBlock => have_read(end.read_block(rt, proc, bytes)),
+    match call {
+        Call::Read(_) => have_read(end.read(rt, proc, bytes.as_mut_slice())),
+        Call::TryRead(_) => have_tried(end.try_read(proc, bytes.as_mut_slice())),
+        Call::ReadBlock => have_read(end.read_block(rt, proc, bytes)),
         _ => {
             end.hangup(proc);
             OK
@@ -208,8 +206,8 @@ fn call_read_end<R: Wait>(
 }
 
 // A call at the write end, which is taken up for it.
-fn at_write_end<R: Wait>(
-    rt: &R,
+fn at_write_end(
+    rt: &impl Wait,
     alloc: Global,
     lone: &mut Lone,
     bytes: &[u8],
@@ -224,19 +222,19 @@ fn at_write_end<R: Wait>(
 }
 
 // A call of the write end.
-fn call_write_end<R: Wait>(
-    rt: &R,
+fn call_write_end(
+    rt: &impl Wait,
     alloc: Global,
-    proc: &mut Proc<'_>,
-    end: &mut WriteEnd<'_>,
+    proc: &mut Proc,
+    end: &mut WriteEnd,
     bytes: &[u8],
     call: Call,
 ) -> Answer
     ensures { IsSameWriteEnd end.old end.new }
 {
-    match call.verb {
-        Verb::Write => numbered("taken", end.write(alloc, rt, proc, bytes)),
-        Verb::WriteLong => have_written(write_on(rt, alloc, proc, end, bytes)),
+    match call {
+        Call::Write => numbered("taken", end.write(alloc, rt, proc, bytes)),
+        Call::WriteLong => have_written(write_on(rt, alloc, proc, end, bytes)),
         _ => {
             end.hangup(proc);
             OK
@@ -246,11 +244,11 @@ fn call_write_end<R: Wait>(
 
 // A long write. Where it finds no memory it goes on once more, after what was taken.
 #[tactic(auto, using(crate::proofs::LoneLemmas::same_twice))]
-fn write_on<R: Wait>(
-    rt: &R,
+fn write_on(
+    rt: &impl Wait,
     alloc: Global,
-    proc: &mut Proc<'_>,
-    end: &mut WriteEnd<'_>,
+    proc: &mut Proc,
+    end: &mut WriteEnd,
     bytes: &[u8],
 ) -> Long
     ensures { IsSameWriteEnd end.old end.new }
@@ -274,7 +272,7 @@ fn write_on<R: Wait>(
 // Gives both ends back, and tells what the direction still held. Where there is no memory they lie
 // there again.
 #[tactic(auto, using(crate::proofs::LoneLemmas::still_both))]
-fn finish_both<R: Wait>(rt: &R, alloc: Global, both: &Both, told: &mut Vec<u8>) -> Answer {
+fn finish_both(rt: &impl Wait, alloc: Global, both: &Both, told: &mut Vec<u8>) -> Answer {
     let Ok(writes) = Vec::with_capacity(alloc, 1) else {
         return Answer::Fault(Fault::Memory);
     };
@@ -314,7 +312,7 @@ fn give_back(
 
 // Lays both ends down again.
 #[tactic(auto, using(crate::proofs::LoneLemmas::last_is_same))]
-fn lay_again<R: Wait>(rt: &R, both: &Both, unfinished: Unfinished<'static>)
+fn lay_again(rt: &impl Wait, both: &Both, unfinished: Unfinished<'static>)
     requires read { IsSameReadEnd both.now.read.value unfinished.read }
     requires writes { AllByRecursion (IsSameWriteEnd both.now.write.value)
         unfinished.writes.items }
@@ -328,17 +326,20 @@ fn lay_again<R: Wait>(rt: &R, both: &Both, unfinished: Unfinished<'static>)
 
 // What is left of a write that was begun, and then each write with its writer.
 fn tell_held(held: &Held, told: &mut Vec<u8>) -> Answer {
+    match tell_writes(held, told) {
+        Ok(()) => Answer::Bytes(if held.hung { "hungup" } else { "open" }, told.len()),
+        Err(_) => Answer::Fault(Fault::Memory),
+    }
+}
+
+// The same as text.
+fn tell_writes(held: &Held, told: &mut Vec<u8>) -> io::Result<()> {
     told.clear();
-    let mut has_room = tell(told, "rest ") && tell_bytes(told, held.rest.as_slice());
+    told.write_all(b"rest ")?;
+    tell_bytes(told, held.rest.as_slice())?;
     for stored in held.writes.iter() {
-        has_room = has_room
-            && tell(told, ", ")
-            && tell_number(told, stored.writer)
-            && tell(told, " ")
-            && tell_bytes(told, stored.block.as_slice());
+        write!(told, ", {} ", stored.writer)?;
+        tell_bytes(told, stored.block.as_slice())?;
     }
-    if !has_room {
-        return Answer::Fault(Fault::Memory);
-    }
-    Answer::Bytes(if held.hung { "hungup" } else { "open" }, told.len())
+    Ok(())
 }

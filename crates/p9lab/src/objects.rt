@@ -8,8 +8,8 @@ use plan9::{
     Clock, Ends, Fault, Hall, Kernel, Mode, OpenedPipe, Parts, Pipe, Pool, ReadEnd, Roster, Shared,
     Unshared, Watch, WriteEnd,
 };
-use scene_text::answer::Answer;
-use scene_text::line::RoleAt;
+use scene_text::answer::{Answer, Came};
+use scene_text::verbs::RoleAt;
 use std::alloc::Global;
 
 /// The ends of one direction that nobody has yet.
@@ -64,22 +64,19 @@ pub fn index_of(object: u64) -> usize {
     (object.max(1) - 1) as usize
 }
 
-/// An object that was made, if there was memory for it, has no answer.
-pub fn has_room(pushed: bool) -> Result<Answer, Fault> {
-    if pushed {
-        Ok(Answer::Nothing)
-    } else {
-        Err(Fault::Memory)
-    }
+/// Puts an object after those of its kind. The line that makes it has no answer.
+pub fn add<T: Drop>(kept: &mut Vec<T>, object: T) -> Came {
+    push(kept, object)?;
+    Ok(Answer::Nothing)
 }
 
 /// A pipe of this mode.
 pub fn open_pipe(
     alloc: Global,
     roster: &mut Roster<'static>,
+    mode: Mode,
     limit: u64,
     writers: u64,
-    mode: Mode,
 ) -> Result<OpenedPipe<'static>, Fault>
     ensures { IfOk result (λ opened. IsStartOf opened.pipe opened.start) }
 {
@@ -90,29 +87,20 @@ pub fn open_pipe(
 }
 
 /// Makes a pipe of this mode, whose ends nobody has yet.
-pub fn make_pipe(
-    scene: &mut Scene<'_>,
-    limit: u64,
-    writers: u64,
-    mode: Mode,
-) -> Result<Answer, Fault> {
-    let opened = open_pipe(scene.alloc, &mut scene.roster, limit, writers, mode)?;
+pub fn make_pipe(scene: &mut Scene, mode: Mode, limit: u64, writers: u64) -> Came {
+    let opened = open_pipe(scene.alloc, &mut scene.roster, mode, limit, writers)?;
     lay_pipe(scene.alloc, &mut scene.objects.directions, opened)
 }
 
 // Lays the ends of both directions of a pipe with those that nobody has yet.
-fn lay_pipe(
-    alloc: Global,
-    directions: &mut Vec<Direction>,
-    opened: OpenedPipe<'static>,
-) -> Result<Answer, Fault>
+fn lay_pipe(alloc: Global, directions: &mut Vec<Direction>, opened: OpenedPipe<'static>) -> Came
     requires { IsStartOf opened.pipe opened.start }
 {
     let Ends { first, second } = ends_of(alloc, opened)?;
     let Parts { read, writes: back } = first.parts();
     let Parts { read: away, writes } = second.parts();
-    let pushed = push(directions, direction_of(read, writes));
-    has_room(push(directions, direction_of(away, back)) && pushed)
+    add(directions, direction_of(read, writes))?;
+    add(directions, direction_of(away, back))
 }
 
 // Keeps a pipe, and takes its two ends.
@@ -135,26 +123,26 @@ fn direction_of(read: ReadEnd<'static>, mut writes: Vec<WriteEnd<'static>>) -> D
 }
 
 /// Makes a semaphore, at which nobody has a seat yet.
-pub fn make_sema(scene: &mut Scene<'_>, units: u32, seats: u64) -> Result<Answer, Fault> {
+pub fn make_sema(scene: &mut Scene, units: u32, seats: u64) -> Came {
     let opened = Pool::new(scene.alloc, &mut scene.roster, units, seats)?;
     let end = end_of(scene.kernel, &scene.roster);
     lay(scene.alloc, &mut scene.objects.pools, opened, end)
 }
 
 /// Makes a tag space, to which nobody has come yet.
-pub fn make_space(scene: &mut Scene<'_>, members: u64) -> Result<Answer, Fault> {
+pub fn make_space(scene: &mut Scene, members: u64) -> Came {
     let opened = Hall::new(scene.alloc, &mut scene.roster, members)?;
     lay_hall(scene, opened)
 }
 
 /// Keeps a tag space, whose Rendez were given last.
-pub fn lay_hall(scene: &mut Scene<'_>, hall: Hall) -> Result<Answer, Fault> {
+pub fn lay_hall(scene: &mut Scene, hall: Hall) -> Came {
     let end = end_of(scene.kernel, &scene.roster);
     lay(scene.alloc, &mut scene.objects.halls, hall, end)
 }
 
 /// Another space of the size of this one, to which nobody has come yet.
-pub fn make_group(scene: &mut Scene<'_>, object: u64) -> Result<Answer, Fault> {
+pub fn make_group(scene: &mut Scene, object: u64) -> Came {
     let Some(Some(hall)) = scene.objects.halls.get(index_of(object)) else {
         return Ok(Answer::Word("no space"));
     };
@@ -164,7 +152,7 @@ pub fn make_group(scene: &mut Scene<'_>, object: u64) -> Result<Answer, Fault> {
 
 /// Lets so many processes share the read end of a pipe, if nobody has it. Where that is refused the
 /// end is there again.
-pub fn share(scene: &mut Scene<'_>, object: u64, procs: u64) -> Result<Answer, Fault> {
+pub fn share(scene: &mut Scene, object: u64, procs: u64) -> Came {
     let place = index_of(object).saturating_mul(2);
     let Some(direction) = scene.objects.directions.get_mut(place) else {
         return Err(Fault::NoProc);
@@ -190,14 +178,9 @@ fn end_of(kernel: &Kernel, roster: &Roster<'static>) -> u64 {
 }
 
 // Keeps an object that was made, whose Rendez are below this end.
-fn lay<T: Drop>(
-    alloc: Global,
-    kept: &mut Vec<Option<Fresh<T>>>,
-    opened: T,
-    end: u64,
-) -> Result<Answer, Fault> {
+fn lay<T: Drop>(alloc: Global, kept: &mut Vec<Option<Fresh<T>>>, opened: T, end: u64) -> Came {
     let object = Box::new(alloc, opened)?;
-    has_room(push(kept, Some(Fresh { object, end })))
+    add(kept, Some(Fresh { object, end }))
 }
 
 /// What a process finds that comes to an object.
@@ -237,7 +220,7 @@ fn is_known<T: Drop>(place: &Option<Fresh<T>>, rendez: u64) -> bool {
 }
 
 /// Makes timers, whose first seat is that of process 0.
-pub fn make_clock(scene: &mut Scene<'_>, seats: u64) -> Result<Answer, Fault> {
+pub fn make_clock(scene: &mut Scene, seats: u64) -> Came {
     let clock = keep(scene.alloc, Clock::new(scene.alloc, seats)?)?;
-    has_room(push(&mut scene.objects.clocks, clock.first()?))
+    add(&mut scene.objects.clocks, clock.first()?)
 }

@@ -3,21 +3,19 @@ ghost use Rattle.std.specs.Prelude.{IfOk, IfSome};
 ghost use Rattle.sleep_wakeup.specs.Starts.{IsStartOf};
 
 use crate::kept::{leave, play};
-use crate::scene::{Scene, begin, open, set, shown_of};
+use crate::scene::{Host, Scene, begin, open, set, shown_of};
 use plan9::{Fault, Kernel, OpenedKernel, Plan};
-use scene_text::answer::{Answer, Shown};
+use scene_text::answer::{Answer, NOTHING, Shown};
 use scene_text::line::{Line, cut, line_of};
 use scene_text::page::Page;
 use scene_text::verbs::Verb;
 use scene_text::words::number_of;
 use std::alloc::Global;
 use std::io::Write;
-use std::sync::Wait;
-use std::thread::Threads;
 
 /// Plays each scene, up to a line that is none.
-pub fn play_text<R: Threads + Wait + Copy + Send + 'static>(
-    rt: &R,
+pub fn play_text(
+    rt: &impl Host,
     alloc: Global,
     turns: u64,
     text: &str,
@@ -41,8 +39,8 @@ pub fn play_text<R: Threads + Wait + Copy + Send + 'static>(
 }
 
 // Plays the line with this number, counted from 0, and puts it with its answer. Whether it is one.
-fn play_line<'t, R: Threads + Wait + Copy + Send + 'static>(
-    rt: &R,
+fn play_line<'t>(
+    rt: &impl Host,
     alloc: Global,
     turns: u64,
     scene: &mut Option<Scene<'t>>,
@@ -73,16 +71,11 @@ fn play_line<'t, R: Threads + Wait + Copy + Send + 'static>(
 }
 
 // Plays a line of a scene, and puts its answer with what its process has read or visited.
-fn step<'t, R: Threads + Wait + Copy + Send + 'static>(
-    rt: &R,
-    scene: &mut Scene<'t>,
-    line: &Line<'t>,
-    page: &mut Page,
-) -> bool {
+fn step<'t>(rt: &impl Host, scene: &mut Scene<'t>, line: &Line<'t>, page: &mut Page) -> bool {
     let Some(answer) = play_again(rt, scene, line) else {
         return false;
     };
-    scene.is_left = line.call.verb == Verb::Left;
+    scene.is_left = matches!(line.verb, Verb::Left);
     let shown = Shown {
         told: scene.told.as_slice(),
         ..shown_of(&scene.processes, line.process.unwrap_or(0))
@@ -93,15 +86,12 @@ fn step<'t, R: Threads + Wait + Copy + Send + 'static>(
 
 // A line that finds no memory is played once more: a call that is refused memory leaves all as it
 // was. What a call came to that was started before is answered as it came.
-fn play_again<'t, R: Threads + Wait + Copy + Send + 'static>(
-    rt: &R,
-    scene: &mut Scene<'t>,
-    line: &Line<'t>,
-) -> Option<Answer> {
-    let verb = line.call.verb;
+fn play_again<'t>(rt: &impl Host, scene: &mut Scene<'t>, line: &Line<'t>) -> Option<Answer> {
+    let is_told = matches!(line.verb, Verb::Ends | Verb::Acted(_));
     match play(rt, scene, line)? {
-        Answer::Fault(Fault::Memory) | Answer::FaultAfter(Fault::Memory, _)
-            if verb != Verb::Ends && verb != Verb::Acted => { play(rt, scene, line) }
+        Answer::Fault(Fault::Memory) | Answer::FaultAfter(Fault::Memory, _) if !is_told => {
+            play(rt, scene, line)
+        }
         answer => Some(answer),
     }
 }
@@ -112,7 +102,7 @@ fn begin_scene<'t>(
     alloc: Global,
     turns: u64,
     scene: &mut Option<Scene<'t>>,
-    line: &Line<'_>,
+    line: &Line,
     page: &mut Page,
 ) -> bool {
     let opened = match open_scene(alloc, turns, line) {
@@ -127,23 +117,23 @@ fn begin_scene<'t>(
         Some(Err(fault)) => Answer::Fault(fault),
         None => return false,
     };
-    page.put_answer(answer, Shown::nothing());
+    page.put_answer(answer, NOTHING);
     page.count_scene();
     true
 }
 
 // The scene that this line begins, if it is a first line.
-fn open_scene<'t>(alloc: Global, turns: u64, line: &Line<'_>) -> Option<Result<Scene<'t>, Fault>> {
+fn open_scene<'t>(alloc: Global, turns: u64, line: &Line) -> Option<Result<Scene<'t>, Fault>> {
     Some(open(alloc, turns, begin(alloc, kernel_of(alloc, line)?)))
 }
 
 // The kernel that a first line asks for.
-fn kernel_of(alloc: Global, line: &Line<'_>) -> Option<Result<OpenedKernel, Fault>>
+fn kernel_of(alloc: Global, line: &Line) -> Option<Result<OpenedKernel, Fault>>
     ensures { IfSome result (λ made. IfOk made (λ opened. IsStartOf opened.kernel opened.start)) }
 {
-    match line.call.verb {
-        Verb::Plan => Some(plan_of(line.text)?.build(alloc)),
-        Verb::Kernel => Some(Kernel::new(alloc, line.call.first, line.call.second)),
+    match line.verb {
+        Verb::Plan(text) => Some(plan_of(text)?.build(alloc)),
+        Verb::Kernel(procs, rendez) => Some(Kernel::new(alloc, procs, rendez)),
         _ => None,
     }
 }
@@ -176,17 +166,13 @@ fn planned(plan: Plan, kind: &str, count: u64) -> Option<Plan> {
 
 // What runs still is called off, unless the last line has done so; what even then doesn't end is
 // told.
-fn end_scene<R: Threads + Wait + Copy + Send + 'static>(
-    rt: &R,
-    scene: &mut Option<Scene<'_>>,
-    page: &mut Page,
-) {
+fn end_scene(rt: &impl Host, scene: &mut Option<Scene<'_>>, page: &mut Page) {
     if let Some(opened) = scene {
         if !opened.is_left {
             let off = leave(rt, opened);
             if off.stuck > 0 {
                 page.put("left");
-                page.put_answer(off.answer(), Shown::nothing());
+                page.put_answer(off.answer(), NOTHING);
             }
         }
     }

@@ -62,10 +62,17 @@ impl Progress {
 
     // Whether the process stands posted in a Rendez.
     fn is_posted(&self) -> bool {
-        let mut procs = [ProcStatus::default(); SEEN];
-        let look = self.kernel.look(&mut procs, &mut []);
-        match look.procs.get(self.pid.0 as usize) {
+        let mut statuses = [ProcStatus::default(); SEEN];
+        match status_of(self.kernel, &mut statuses, self.pid.0) {
             Some(status) => status.posted.is_some(),
+            None => false,
+        }
+    }
+
+    /// Whether the process is posted, and nobody has marked it.
+    pub fn waits(&self, statuses: &mut [ProcStatus]) -> bool {
+        match status_of(self.kernel, statuses, self.pid.0) {
+            Some(status) => status.posted.is_some() && !status.marked,
             None => false,
         }
     }
@@ -81,6 +88,12 @@ impl Progress {
         }
         self.point.store(0, SeqCst);
     }
+}
+
+/// How the process with this pid stands, as look(2) shows it, if there is one.
+pub fn status_of(kernel: &Kernel, statuses: &mut [ProcStatus], pid: u64) -> Option<ProcStatus> {
+    let look = kernel.look(statuses, &mut []);
+    look.procs.get(pid as usize).copied()
 }
 
 /// The points at which a call stands until it is let go, once at each.

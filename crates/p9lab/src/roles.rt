@@ -7,45 +7,47 @@ use plan9::{
 use scene_text::answer::{
     Answer, NOT_ITS_CALL, OK, done, have_piece, have_read, have_tried, have_written, numbered,
 };
-use scene_text::line::Call;
-use scene_text::verbs::Verb;
+use scene_text::verbs::{Call, Deadline};
 use std::sync::Wait;
 
 /// A call of a process alone: sleep(2) and postnote(2).
-pub fn call_plain<R: Wait, P: Probe>(
-    rt: &R,
-    proc: &mut Proc<'_>,
+pub fn call_plain(
+    rt: &impl Wait,
+    proc: &mut Proc,
     means: &mut Means,
     call: Call,
-    probe: &mut P,
+    probe: &mut impl Probe,
 ) -> Option<Answer> {
-    let Call { now, ms, .. } = call;
-    let (rendez, level) = (RendezId(call.first), call.second);
-    Some(match call.verb {
-        Verb::Sleep => done("woken", proc.sleep_probed(rt, rendez, level, probe)),
-        Verb::SleepWithin => {
+    Some(match call {
+        Call::Sleep(rendez, level) => {
+            done(
+                "woken",
+                proc.sleep_probed(rt, RendezId(rendez), level, probe),
+            )
+        }
+        Call::SleepWithin(Deadline { now, ms }, rendez, level) => {
             let watch = means.watch.as_mut()?;
             done(
                 "woken",
-                watch.sleep_within(rt, proc, rendez, level, now, ms),
+                watch.sleep_within(rt, proc, RendezId(rendez), level, now, ms),
             )
         }
-        Verb::Tick => {
+        Call::Tick(now) => {
             let watch = means.watch.as_mut()?;
-            Answer::Number("expired", watch.tick(rt, proc, call.first))
+            Answer::Number("expired", watch.tick(rt, proc, now))
         }
         _ => call_at_once(proc, call),
     })
 }
 
 /// The calls that never wait.
-pub fn call_at_once(proc: &mut Proc<'_>, call: Call) -> Answer {
-    match call.verb {
-        Verb::Wakeup => done("ok", proc.wakeup(RendezId(call.first), call.second)),
-        Verb::Note => done("ok", proc.postnote(Pid(call.first), call.notes)),
-        Verb::Notes => Answer::Notes("notes", proc.notes()),
-        Verb::PutBack => {
-            proc.put_back(call.notes);
+pub fn call_at_once(proc: &mut Proc, call: Call) -> Answer {
+    match call {
+        Call::Wakeup(rendez, level) => done("ok", proc.wakeup(RendezId(rendez), level)),
+        Call::Note(pid, notes) => done("ok", proc.postnote(Pid(pid), notes)),
+        Call::Notes => Answer::Notes("notes", proc.notes()),
+        Call::PutBack(notes) => {
+            proc.put_back(notes);
             OK
         }
         _ => NOT_ITS_CALL,
@@ -53,30 +55,29 @@ pub fn call_at_once(proc: &mut Proc<'_>, call: Call) -> Answer {
 }
 
 /// A call of a process that reads a direction of a pipe or a stream.
-pub fn call_reader<R: Wait, P: Probe>(
-    rt: &R,
-    reader: &mut Reader<'_, '_>,
+pub fn call_reader(
+    rt: &impl Wait,
+    reader: &mut Reader,
     means: &mut Means,
     call: Call,
-    probe: &mut P,
+    probe: &mut impl Probe,
 ) -> Option<Answer> {
     let Means { bytes, watch, .. } = means;
-    Some(match call.verb {
-        Verb::Read | Verb::ReadWithin | Verb::TryRead | Verb::NextPiece | Verb::ReadExact
-            if !make_room(bytes, call.first) => { Answer::Fault(Fault::Memory) }
-        Verb::Read => have_read(reader.read(rt, bytes.as_mut_slice())),
-        Verb::ReadWithin => {
+    Some(match call {
+        _ if !make_room(bytes, call) => Answer::Fault(Fault::Memory),
+        Call::Read(_) => have_read(reader.read(rt, bytes.as_mut_slice())),
+        Call::ReadWithin(Deadline { now, ms }, _) => {
             let watch = watch.as_mut()?;
-            have_read(reader.read_within(rt, watch, call.now, call.ms, bytes.as_mut_slice()))
+            have_read(reader.read_within(rt, watch, now, ms, bytes.as_mut_slice()))
         }
-        Verb::TryRead => have_tried(reader.try_read(bytes.as_mut_slice())),
-        Verb::ReadBlock => have_read(reader.read_block(rt, bytes)),
-        Verb::NextPiece => have_piece(reader.next_piece(rt, bytes.as_mut_slice())),
-        Verb::ReadExact => {
+        Call::TryRead(_) => have_tried(reader.try_read(bytes.as_mut_slice())),
+        Call::ReadBlock => have_read(reader.read_block(rt, bytes)),
+        Call::NextPiece(_) => have_piece(reader.next_piece(rt, bytes.as_mut_slice())),
+        Call::ReadExact(_) => {
             let count = bytes.len();
             have_filled(reader.read_exact(rt, bytes.as_mut_slice()), count)
         }
-        Verb::Hangup => {
+        Call::Hangup => {
             reader.hangup();
             OK
         }
@@ -95,34 +96,36 @@ fn have_filled(answer: Result<(), ShortRead>, count: usize) -> Answer {
     }
 }
 
-/// So many bytes of room.
-pub fn make_room(bytes: &mut Vec<u8>, count: u64) -> bool {
+/// Makes room for the bytes of a read that says for how many. Whether there was memory.
+pub fn make_room(bytes: &mut Vec<u8>, call: Call) -> bool {
+    let Some(count) = call.room() else {
+        return true;
+    };
     bytes.clear();
     bytes.resize(count as usize, 0).is_ok()
 }
 
 /// A call of a process that writes at a direction of a pipe or a stream.
-pub fn call_writer<R: Wait, P: Probe>(
-    rt: &R,
-    writer: &mut Writer<'_, '_>,
+pub fn call_writer(
+    rt: &impl Wait,
+    writer: &mut Writer,
     means: &mut Means,
     call: Call,
-    probe: &mut P,
+    probe: &mut impl Probe,
 ) -> Option<Answer> {
-    let Call { now, ms, .. } = call;
     let alloc = means.alloc;
     let bytes = means.bytes.as_slice();
-    Some(match call.verb {
-        Verb::Write => numbered("taken", writer.write(alloc, rt, bytes)),
-        Verb::WriteWithin => {
+    Some(match call {
+        Call::Write => numbered("taken", writer.write(alloc, rt, bytes)),
+        Call::WriteWithin(Deadline { now, ms }) => {
             let watch = means.watch.as_mut()?;
             numbered(
                 "taken",
                 writer.write_within(alloc, rt, watch, now, ms, bytes),
             )
         }
-        Verb::WriteLong => have_written(writer.write_long(alloc, rt, bytes)),
-        Verb::Hangup => {
+        Call::WriteLong => have_written(writer.write_long(alloc, rt, bytes)),
+        Call::Hangup => {
             writer.hangup();
             OK
         }
@@ -131,70 +134,66 @@ pub fn call_writer<R: Wait, P: Probe>(
 }
 
 /// A call of a process that shares a read end with others.
-pub fn call_sharer<R: Wait>(
-    rt: &R,
-    sharer: &mut Sharer<'_, '_, '_>,
-    bytes: &mut Vec<u8>,
-    call: Call,
-) -> Answer {
-    match call.verb {
-        Verb::Read if !make_room(bytes, call.first) => Answer::Fault(Fault::Memory),
-        Verb::Read => have_read(sharer.read(rt, bytes.as_mut_slice())),
+pub fn call_sharer(rt: &impl Wait, sharer: &mut Sharer, bytes: &mut Vec<u8>, call: Call) -> Answer {
+    match call {
+        Call::Read(_) if !make_room(bytes, call) => Answer::Fault(Fault::Memory),
+        Call::Read(_) => have_read(sharer.read(rt, bytes.as_mut_slice())),
         _ => NOT_ITS_CALL,
     }
 }
 
 /// A call of a process with a seat at a semaphore.
-pub fn call_holder<R: Wait, P: Probe>(
-    rt: &R,
-    holder: &mut Holder<'_, '_>,
+pub fn call_holder(
+    rt: &impl Wait,
+    holder: &mut Holder,
     means: &mut Means,
     call: Call,
-    probe: &mut P,
+    probe: &mut impl Probe,
 ) -> Option<Answer> {
-    let Call { now, ms, .. } = call;
-    Some(match call.verb {
-        Verb::Acquire => done("acquired", holder.acquire_probed(rt, probe)),
-        Verb::TryAcquire => {
+    Some(match call {
+        Call::Acquire => done("acquired", holder.acquire_probed(rt, probe)),
+        Call::TryAcquire => {
             let came = holder.try_acquire_probed(rt, probe);
             Answer::Word(if came { "acquired" } else { "not now" })
         }
-        Verb::AcquireWithin => {
+        Call::AcquireWithin(Deadline { now, ms }) => {
             let watch = means.watch.as_mut()?;
             done(
                 "acquired",
                 holder.acquire_within_probed(rt, watch, now, ms, probe),
             )
         }
-        Verb::Release => numbered("value", holder.release(rt, call.count).map(u64::from)),
-        Verb::Note => done("ok", holder.postnote(Pid(call.first), call.notes)),
-        Verb::Notes => Answer::Notes("notes", holder.notes()),
-        Verb::Rendez => Answer::Number("rendez", holder.rendez().0),
+        Call::Release(count) => numbered("value", holder.release(rt, count).map(u64::from)),
+        Call::Note(pid, notes) => done("ok", holder.postnote(Pid(pid), notes)),
+        Call::Notes => Answer::Notes("notes", holder.notes()),
+        Call::Rendez => Answer::Number("rendez", holder.rendez().0),
         _ => NOT_ITS_CALL,
     })
 }
 
 /// A call of a member of a tag space.
-pub fn call_guest<R: Wait, P: Probe>(
-    rt: &R,
-    guest: &mut Guest<'_, '_>,
+pub fn call_guest(
+    rt: &impl Wait,
+    guest: &mut Guest,
     means: &mut Means,
     call: Call,
-    probe: &mut P,
+    probe: &mut impl Probe,
 ) -> Option<Answer> {
-    let Call { now, ms, .. } = call;
-    let (tag, value) = (Tag(call.first), call.second);
-    Some(match call.verb {
-        Verb::Rendezvous => numbered("met", guest.rendezvous_probed(rt, tag, value, probe)),
-        Verb::RendezvousWithin => {
+    Some(match call {
+        Call::Rendezvous(tag, value) => {
+            numbered("met", guest.rendezvous_probed(rt, Tag(tag), value, probe))
+        }
+        Call::RendezvousWithin(Deadline { now, ms }, tag, value) => {
             let watch = means.watch.as_mut()?;
-            let met = guest.rendezvous_within_probed(rt, watch, now, ms, tag, value, probe);
+            let met = guest.rendezvous_within_probed(rt, watch, now, ms, Tag(tag), value, probe);
             numbered("met", met)
         }
-        Verb::RendezvousWord => numbered("met", guest.rendezvous_word(rt, tag, value)),
-        Verb::Note => done("ok", guest.postnote(Pid(call.first), call.notes)),
-        Verb::Notes => Answer::Notes("notes", guest.notes()),
-        Verb::Rendez => Answer::Number("rendez", guest.rendez().0),
+        Call::RendezvousWord(tag, value) => {
+            numbered("met", guest.rendezvous_word(rt, Tag(tag), value))
+        }
+        Call::Note(pid, notes) => done("ok", guest.postnote(Pid(pid), notes)),
+        Call::Notes => Answer::Notes("notes", guest.notes()),
+        Call::Rendez => Answer::Number("rendez", guest.rendez().0),
         _ => NOT_ITS_CALL,
     })
 }

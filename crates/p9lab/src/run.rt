@@ -1,11 +1,10 @@
 //! The program on its words: which texts it plays, and the status that says how that went.
 use crate::play::play_text;
+use crate::scene::Host;
 use scene_text::page::Page;
 use scene_text::words::number_of;
 use std::fs::Files;
 use std::io::{ErrorKind, Read, Write};
-use std::sync::Wait;
-use std::thread::Threads;
 use std::{fs, io};
 
 /// The status of a run in which each answer agrees.
@@ -49,8 +48,8 @@ fn options_of(words: &[String]) -> Option<Options> {
 }
 
 /// The whole program on its words, its own name first.
-pub fn run_words<R: Threads + Wait + Files + AllocGlobal + Copy + Send + 'static>(
-    rt: &R,
+pub fn run_words(
+    rt: &(impl Host + Files + AllocGlobal),
     words: &[String],
     input: &mut impl Read,
     out: &mut impl Write,
@@ -78,8 +77,8 @@ fn end(page: &Page, err: &mut impl Write) -> u8 {
 }
 
 // Plays a text that was read, and says where it differs.
-fn play_read<R: Threads + Wait + AllocGlobal + Copy + Send + 'static>(
-    rt: &R,
+fn play_read(
+    rt: &(impl Host + AllocGlobal),
     turns: u64,
     name: &str,
     text: io::Result<String>,

@@ -9,10 +9,16 @@ use crate::kept::KeptLines;
 use crate::objects::Objects;
 use crate::progress::Progress;
 use plan9::{Fault, Kernel, OpenedKernel, Proc, ProcStatus, Roster, Started};
-use scene_text::answer::Shown;
+use scene_text::answer::{NOTHING, Shown};
 use std::alloc::Global;
 use std::mem;
-use std::thread::JoinHandle;
+use std::sync::Wait;
+use std::thread::{JoinHandle, Threads};
+
+/// What a scene runs on: threads, which may wait for one another.
+pub trait Host: Threads + Wait + Copy + Send + 'static {}
+
+impl<R: Threads + Wait + Copy + Send + 'static> Host for R {}
 
 /// Whether a process may make a call.
 #[derive(Drop)]
@@ -74,45 +80,27 @@ pub fn set<T: Drop>(place: &mut T, value: T) {
     let _gone = mem::replace(place, value);
 }
 
-/// Whether there was memory for one more.
-pub fn push<T: Drop>(places: &mut Vec<T>, value: T) -> bool {
-    places.push(value).is_ok()
+/// Puts a value after those that are there, if there is memory for it.
+pub fn push<T: Drop>(places: &mut Vec<T>, value: T) -> Result<(), Fault> {
+    Ok(places.push(value)?)
 }
 
-/// A kernel, its roster and its process 0.
-#[derive(Drop)]
-pub struct Setup {
-    pub kernel: &'static Kernel,
-    pub roster: Roster<'static>,
-    pub zero: Proc<'static>,
-}
+/// A kernel that was made, kept and started, with its roster and its process 0.
+pub type Begun = Result<(&'static Kernel, Started<'static>), Fault>;
 
-/// A kernel that was made, kept and started.
-pub fn begin(alloc: Global, made: Result<OpenedKernel, Fault>) -> Result<Setup, Fault>
+/// Keeps a kernel that was made, and starts it.
+pub fn begin(alloc: Global, made: Result<OpenedKernel, Fault>) -> Begun
     requires { IfOk made (λ opened. IsStartOf opened.kernel opened.start) }
 {
     let OpenedKernel { kernel, start } = made?;
     let kernel = keep(alloc, kernel)?;
     let kernel = &*kernel;
-    let Started { roster, proc } = kernel.start(start);
-    Ok(Setup {
-        kernel,
-        roster,
-        zero: proc,
-    })
+    Ok((kernel, kernel.start(start)))
 }
 
 /// A scene with this kernel, and nobody but process 0.
-pub fn open<'t>(
-    alloc: Global,
-    turns: u64,
-    begun: Result<Setup, Fault>,
-) -> Result<Scene<'t>, Fault> {
-    let Setup {
-        kernel,
-        roster,
-        zero,
-    } = begun?;
+pub fn open<'t>(alloc: Global, turns: u64, begun: Begun) -> Result<Scene<'t>, Fault> {
+    let (kernel, Started { roster, proc: zero }) = begun?;
     let statuses = room_for(alloc, kernel.proc_count())?;
     Ok(Scene {
         alloc,
@@ -141,12 +129,9 @@ fn room_for(alloc: Global, procs: u64) -> Result<Vec<ProcStatus>, Fault> {
 
 /// The place of the process with this number among these, if it has one. Process 0 has none.
 pub fn place_of(processes: &Vec<Process>, number: u64) -> Option<usize> {
-    for (at, process) in processes.iter().enumerate() {
-        if process.number == number {
-            return Some(at);
-        }
-    }
-    None
+    processes
+        .iter()
+        .position(|process| process.number == number)
 }
 
 /// What is shown of the process with this number; nothing where it is not here.
@@ -157,7 +142,7 @@ pub fn shown_of(processes: &Vec<Process>, number: u64) -> Shown<'_> {
             visits: caller.visits.as_slice(),
             told: &[],
         },
-        None => Shown::nothing(),
+        None => NOTHING,
     }
 }
 

@@ -1,18 +1,18 @@
 //! How a process is made and gets its role.
-use crate::caller::{Caller, Means, Role};
+use crate::caller::{Caller, Means, Member, OwnProc, Role};
 use crate::lone::lone_at;
 use crate::objects::{Found, Objects, find, lay_hall};
 use crate::progress::Progress;
 use crate::scene::{
-    Process, STRANGERS, Scene, Setup, State, begin, caller_at, caller_in, for_good, keep,
-    process_in, push, set,
+    Process, STRANGERS, Scene, State, begin, caller_at, caller_in, for_good, keep, process_in,
+    push, set,
 };
 use plan9::{
-    Fault, Flags, ForkedGuest, Guest, Hall, Holder, Kernel, NoteSet, Pid, Proc, ReadEnd, Reader,
-    Refused, Roster, Sharer, Unforked, UnforkedGuest, WriteEnd, Writer, fork_writers,
+    Fault, Flags, ForkedGuest, Hall, Holder, Kernel, NoteSet, Pid, ReadEnd, Reader, Refused,
+    Roster, Sharer, Started, Unforked, UnforkedGuest, WriteEnd, Writer, fork_writers,
 };
-use scene_text::answer::{Answer, NOBODY, NOT_ITS_CALL, numbered};
-use scene_text::line::{RoleAt, RoleName};
+use scene_text::answer::{Answer, Came, NOBODY, NOT_ITS_CALL, numbered};
+use scene_text::verbs::{RoleAt, RoleName};
 use std::alloc::Global;
 use std::mem;
 use std::sync::Wait;
@@ -20,7 +20,7 @@ use std::sync::Wait;
 // ---- children
 
 /// `N fork`: a child of a holder, which holds as well. Where it is refused no pid is used up.
-pub fn fork_holder<R: Wait>(rt: &R, scene: &mut Scene<'_>, number: u64) -> Result<Answer, Fault> {
+pub fn fork_holder(rt: &impl Wait, scene: &mut Scene, number: u64) -> Came {
     let Some(caller) = caller_in(&mut scene.processes, number) else {
         return Ok(NOT_ITS_CALL);
     };
@@ -34,12 +34,7 @@ pub fn fork_holder<R: Wait>(rt: &R, scene: &mut Scene<'_>, number: u64) -> Resul
 }
 
 /// `N rfork FLAGS`: a child of a guest, which is one as well; and else one alone.
-pub fn rfork_alone<R: Wait>(
-    rt: &R,
-    scene: &mut Scene<'_>,
-    number: u64,
-    flags: Flags,
-) -> Result<Answer, Fault> {
+pub fn rfork_alone(rt: &impl Wait, scene: &mut Scene, number: u64, flags: Flags) -> Came {
     match take_guest(&mut scene.processes, number) {
         Some((guest, held)) => rfork_guest(rt, scene, number, guest, held, flags),
         None => fork(rt, scene, number, flags, role_at(RoleName::Plain, 1)),
@@ -47,10 +42,7 @@ pub fn rfork_alone<R: Wait>(
 }
 
 // The guest with this number and its role, if it is here. It has no role until it comes back.
-fn take_guest(
-    processes: &mut Vec<Process>,
-    number: u64,
-) -> Option<(Guest<'static, 'static>, RoleAt)> {
+fn take_guest(processes: &mut Vec<Process>, number: u64) -> Option<(Member, RoleAt)> {
     let Caller { role, held, .. } = caller_in(processes, number)?;
     match role {
         Role::Guest(guest) => Some((guest.take()?, *held)),
@@ -59,14 +51,14 @@ fn take_guest(
 }
 
 // The rfork of a guest. A new space has the next number.
-fn rfork_guest<R: Wait>(
-    rt: &R,
-    scene: &mut Scene<'_>,
+fn rfork_guest(
+    rt: &impl Wait,
+    scene: &mut Scene,
     number: u64,
-    guest: Guest<'static, 'static>,
+    guest: Member,
     held: RoleAt,
     flags: Flags,
-) -> Result<Answer, Fault> {
+) -> Came {
     match guest.rfork(scene.alloc, rt, &mut scene.roster, flags) {
         Ok(ForkedGuest::Alone { guest }) => {
             come_back(&mut scene.processes, number, held, Role::Guest(Some(guest)));
@@ -99,13 +91,7 @@ fn come_back(processes: &mut Vec<Process>, number: u64, held: RoleAt, role: Role
 }
 
 // The process with this number is the first guest of a new space. Where it is refused it is gone.
-fn move_apart<R: Wait>(
-    rt: &R,
-    scene: &mut Scene<'_>,
-    number: u64,
-    hall: Hall,
-    proc: Proc<'static>,
-) -> Result<Answer, Fault> {
+fn move_apart(rt: &impl Wait, scene: &mut Scene, number: u64, hall: Hall, proc: OwnProc) -> Came {
     match first_guest(rt, scene, hall, proc) {
         Ok((role, held)) => {
             come_back(&mut scene.processes, number, held, role);
@@ -121,18 +107,18 @@ fn move_apart<R: Wait>(
 }
 
 // The role of a process that is the first guest of a new space.
-fn first_guest<R: Wait>(
-    rt: &R,
-    scene: &mut Scene<'_>,
+fn first_guest(
+    rt: &impl Wait,
+    scene: &mut Scene,
     hall: Hall,
-    proc: Proc<'static>,
+    proc: OwnProc,
 ) -> Result<(Role, RoleAt), Fault> {
     let held = new_space(scene, hall)?;
     Ok((role_for(rt, scene, proc, held)?, held))
 }
 
 // A new space has the next number: the role of a guest there.
-fn new_space(scene: &mut Scene<'_>, hall: Hall) -> Result<RoleAt, Fault> {
+fn new_space(scene: &mut Scene, hall: Hall) -> Result<RoleAt, Fault> {
     lay_hall(scene, hall)?;
     Ok(role_at(RoleName::Guest, scene.objects.halls.len() as u64))
 }
@@ -144,13 +130,7 @@ fn role_at(name: RoleName, object: u64) -> RoleAt {
 }
 
 /// `N fork ROLE ..`, `N rfork FLAGS ROLE ..`: a child of the process with this number, in its role.
-pub fn fork<R: Wait>(
-    rt: &R,
-    scene: &mut Scene<'_>,
-    number: u64,
-    flags: Flags,
-    role: RoleAt,
-) -> Result<Answer, Fault> {
+pub fn fork(rt: &impl Wait, scene: &mut Scene, number: u64, flags: Flags, role: RoleAt) -> Came {
     // whether a child is asked for, and nothing that the roster refuses
     let makes_one = flags == Flags::RFPROC || is_alone(flags);
     if proc_in(&mut scene.zero, &mut scene.processes, number).is_none() {
@@ -169,11 +149,7 @@ pub fn fork<R: Wait>(
 }
 
 // A child of the process with this number, if these flags ask for one.
-fn child_of(
-    scene: &mut Scene<'_>,
-    number: u64,
-    flags: Flags,
-) -> Result<Option<Proc<'static>>, Fault> {
+fn child_of(scene: &mut Scene, number: u64, flags: Flags) -> Result<Option<OwnProc>, Fault> {
     match proc_in(&mut scene.zero, &mut scene.processes, number) {
         Some(parent) => scene.roster.rfork(parent, flags),
         None => Err(Fault::NoProc),
@@ -186,7 +162,7 @@ fn is_alone(flags: Flags) -> bool {
 }
 
 /// Posts notes to the group of a pid.
-pub fn note_group(scene: &mut Scene<'_>, number: u64, pid: u64, notes: NoteSet) -> Answer {
+pub fn note_group(scene: &mut Scene, number: u64, pid: u64, notes: NoteSet) -> Answer {
     match proc_in(&mut scene.zero, &mut scene.processes, number) {
         Some(poster) => {
             let count = scene.roster.postnote_group(poster, Pid(pid), notes);
@@ -198,10 +174,10 @@ pub fn note_group(scene: &mut Scene<'_>, number: u64, pid: u64, notes: NoteSet) 
 
 // The process with this number, if it is here and its role lends it.
 fn proc_in<'a>(
-    zero: &'a mut Proc<'static>,
+    zero: &'a mut OwnProc,
     processes: &'a mut Vec<Process>,
     number: u64,
-) -> Option<&'a mut Proc<'static>> {
+) -> Option<&'a mut OwnProc> {
     if number == 0 {
         return Some(zero);
     }
@@ -218,12 +194,7 @@ fn proc_in<'a>(
 
 // A child for each write end of a direction that nobody has, the first one's writer first. Where it
 // is refused no pid is used up.
-fn fork_each_writer(
-    scene: &mut Scene<'_>,
-    number: u64,
-    flags: Flags,
-    role: RoleAt,
-) -> Result<Answer, Fault> {
+fn fork_each_writer(scene: &mut Scene, number: u64, flags: Flags, role: RoleAt) -> Came {
     let parent = proc_in(&mut scene.zero, &mut scene.processes, number);
     let (Some(parent), Some(direction)) = (parent, scene.objects.direction(role)) else {
         return Err(Fault::NoProc);
@@ -247,7 +218,7 @@ fn part_each(roster: &mut Roster<'static>, writers: &mut Vec<Writer<'static, 'st
 fn writers_of(
     alloc: Global,
     roster: &mut Roster<'static>,
-    parent: &mut Proc<'static>,
+    parent: &mut OwnProc,
     ends: &mut Vec<WriteEnd<'static>>,
 ) -> Result<Vec<Writer<'static, 'static>>, Fault> {
     let mut taken = mem::replace(ends, Vec::new(alloc));
@@ -268,11 +239,7 @@ fn writers_of(
 }
 
 // Gives each of these writers its place. The answer is that of the last.
-fn seat_each(
-    scene: &mut Scene<'_>,
-    writers: Vec<Writer<'static, 'static>>,
-    held: RoleAt,
-) -> Result<Answer, Fault> {
+fn seat_each(scene: &mut Scene, writers: Vec<Writer<'static, 'static>>, held: RoleAt) -> Came {
     let mut last = Ok(NOBODY);
     for writer in writers {
         let pid = writer.proc.pid();
@@ -285,28 +252,23 @@ fn seat_each(
 
 // Gives a child its role and its place. A child whose role is refused is gone, and its pid is used
 // up.
-fn place<R: Wait>(
-    rt: &R,
-    scene: &mut Scene<'_>,
-    proc: Proc<'static>,
-    role: RoleAt,
-) -> Result<Answer, Fault> {
+fn place(rt: &impl Wait, scene: &mut Scene, proc: OwnProc, role: RoleAt) -> Came {
     let pid = proc.pid();
     match role_for(rt, scene, proc, role) {
         Ok(taken) => seat_role(scene, pid, taken, role),
         Err(fault) => {
-            let progress = Progress::new(scene.turns, scene.kernel, pid);
-            let _ = seat(scene, pid.0, progress, State::Gone);
+            let kernel = scene.kernel;
+            let _ = seat(scene, pid.0, kernel, pid, State::Gone);
             Err(fault)
         }
     }
 }
 
 // Gives a process of the scene's kernel its place, in its role.
-fn seat_role(scene: &mut Scene<'_>, pid: Pid, role: Role, held: RoleAt) -> Result<Answer, Fault> {
-    let progress = Progress::new(scene.turns, scene.kernel, pid);
+fn seat_role(scene: &mut Scene, pid: Pid, role: Role, held: RoleAt) -> Came {
+    let kernel = scene.kernel;
     let state = here(scene.alloc, role, held);
-    seat(scene, pid.0, progress, state)
+    seat(scene, pid.0, kernel, pid, state)
 }
 
 // A process in its role, which has made no call yet.
@@ -324,54 +286,41 @@ fn here(alloc: Global, role: Role, held: RoleAt) -> State {
     })
 }
 
-// Puts a process after those that are there.
-fn seat(
-    scene: &mut Scene<'_>,
-    number: u64,
-    progress: Progress,
-    state: State,
-) -> Result<Answer, Fault> {
+// Puts a process of this kernel after those that are there.
+fn seat(scene: &mut Scene, number: u64, kernel: &'static Kernel, pid: Pid, state: State) -> Came {
+    let progress = keep(scene.alloc, Progress::new(scene.turns, kernel, pid))?;
     let process = Process {
         number,
-        progress: keep(scene.alloc, progress)?,
+        progress,
         state,
     };
-    if push(&mut scene.processes, process) {
-        Ok(Answer::Number("process", number))
-    } else {
-        Err(Fault::Memory)
-    }
+    push(&mut scene.processes, process)?;
+    Ok(Answer::Number("process", number))
 }
 
 /// A process of a kernel of its own, in its role at an object of this one. Where it is refused it
 /// has no place, and no number.
-pub fn seat_stranger<R: Wait>(
-    rt: &R,
-    scene: &mut Scene<'_>,
+pub fn seat_stranger(
+    rt: &impl Wait,
+    scene: &mut Scene,
     procs: u64,
     rendez: u64,
     role: RoleAt,
-) -> Result<Answer, Fault> {
+) -> Came {
     let made = begin(scene.alloc, Kernel::new(scene.alloc, procs, rendez));
-    let Setup { kernel, zero, .. } = made?;
-    let taken = role_for(rt, scene, zero, role)?;
+    let (kernel, Started { proc, .. }) = made?;
+    let taken = role_for(rt, scene, proc, role)?;
     let number = STRANGERS.saturating_add(scene.strangers);
     scene.strangers = scene.strangers.saturating_add(1);
-    let progress = Progress::new(scene.turns, kernel, Pid(0));
     let state = here(scene.alloc, taken, role);
-    seat(scene, number, progress, state)
+    seat(scene, number, kernel, Pid(0), state)
 }
 
 // ---- roles
 
 // The role of a process, with the end or the seat that it takes. Who is refused takes nothing
 // along.
-fn role_for<R: Wait>(
-    rt: &R,
-    scene: &mut Scene<'_>,
-    proc: Proc<'static>,
-    role: RoleAt,
-) -> Result<Role, Fault> {
+fn role_for(rt: &impl Wait, scene: &mut Scene, proc: OwnProc, role: RoleAt) -> Result<Role, Fault> {
     match role.name {
         RoleName::Plain => Ok(Role::Plain(proc)),
         RoleName::Reader => match read_end_of(&mut scene.objects, role) {
@@ -401,10 +350,10 @@ fn write_end_of(objects: &mut Objects, role: RoleAt) -> Option<WriteEnd<'static>
 }
 
 // The first process at a pool, or one more beside one that is there.
-fn hold<R: Wait>(
-    rt: &R,
-    scene: &mut Scene<'_>,
-    proc: Proc<'static>,
+fn hold(
+    rt: &impl Wait,
+    scene: &mut Scene,
+    proc: OwnProc,
     role: RoleAt,
 ) -> Result<Holder<'static, 'static>, Fault> {
     match find(&mut scene.objects.pools, role.object, proc.rendez_count()) {
@@ -418,12 +367,7 @@ fn hold<R: Wait>(
 }
 
 // The first process in a tag space, or one more beside one that is there.
-fn admit<R: Wait>(
-    rt: &R,
-    scene: &mut Scene<'_>,
-    proc: Proc<'static>,
-    role: RoleAt,
-) -> Result<Guest<'static, 'static>, Fault> {
+fn admit(rt: &impl Wait, scene: &mut Scene, proc: OwnProc, role: RoleAt) -> Result<Member, Fault> {
     match find(&mut scene.objects.halls, role.object, proc.rendez_count()) {
         Found::Mine(hall) => Ok(for_good(hall).first(proc)?),
         Found::Foreign(hall) => Err(why_not(hall.first(proc))),
@@ -437,7 +381,7 @@ fn admit<R: Wait>(
 // The first that has turns at a shared end.
 fn first_sharer(
     objects: &mut Objects,
-    proc: Proc<'static>,
+    proc: OwnProc,
     object: u64,
 ) -> Result<Sharer<'static, 'static, 'static>, Fault> {
     match find(&mut objects.shared, object, proc.rendez_count()) {
@@ -456,12 +400,7 @@ fn why_not<T: Drop>(first: Result<T, Refused<'_>>) -> Fault {
 }
 
 // One more that shares the end, a child of one that does, in its note group.
-fn fork_sharer<R: Wait>(
-    rt: &R,
-    scene: &mut Scene<'_>,
-    flags: Flags,
-    held: RoleAt,
-) -> Result<Answer, Fault> {
+fn fork_sharer(rt: &impl Wait, scene: &mut Scene, flags: Flags, held: RoleAt) -> Came {
     if is_alone(flags) {
         return Ok(NOT_ITS_CALL);
     }

@@ -19,16 +19,12 @@ pub struct Shown<'a> {
     pub told: &'a [u8],
 }
 
-impl<'a> Shown<'a> {
-    /// Nothing.
-    pub fn nothing() -> Shown<'a> {
-        Shown {
-            bytes: &[],
-            visits: &[],
-            told: &[],
-        }
-    }
-}
+/// Nothing is shown.
+pub const NOTHING: Shown<'static> = Shown {
+    bytes: &[],
+    visits: &[],
+    told: &[],
+};
 
 /// An answer, in words and what stands after them.
 #[derive(Clone, Copy)]
@@ -54,6 +50,9 @@ pub enum Answer {
     /// What was told before, from one place to another.
     Told(usize, usize),
 }
+
+/// What a line comes to.
+pub type Came = Result<Answer, Fault>;
 
 /// A call that was made.
 pub const OK: Answer = Answer::Word("ok");

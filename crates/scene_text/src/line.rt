@@ -1,8 +1,9 @@
 //! A line, cut into its words.
-use crate::verbs::{Entry, Operand, Speaker, Verb, entry_of};
-use crate::words::{bytes_of, count_of, flags_of, kinds_of, number_of, object_of, room_of};
-use std::str::SplitWhitespace;
-use sync_base::{Flags, NoteSet};
+use crate::verbs::Call::*;
+use crate::verbs::Verb::*;
+use crate::verbs::{Call, Deadline, RoleAt, RoleName, Verb};
+use crate::words::{Words, bytes, count, flags, kinds, number, number_of, object, object_of, room};
+use sync_base::Mode;
 
 /// What is played of a line, and the answer that it wants, if one was written. A comment has none.
 pub fn cut(line: &str) -> (&str, Option<&str>) {
@@ -12,54 +13,12 @@ pub fn cut(line: &str) -> (&str, Option<&str>) {
     }
 }
 
-/// A verb with its operands. A call with a deadline ends so many milliseconds from a moment on.
-#[derive(Clone, Copy)]
-pub struct Call {
-    pub verb: Verb,
-    pub first: u64,
-    pub second: u64,
-    pub count: u32,
-    pub now: u64,
-    pub ms: u32,
-    pub notes: NoteSet,
-    pub object: u64,
-    pub flags: Flags,
-    pub role: Option<RoleAt>,
-}
-
-/// A role, as a line names it.
-#[derive(Clone, Copy, PartialEq, Eq)]
-pub enum RoleName {
-    Plain,
-    Reader,
-    Writer,
-    /// Each writer of a direction.
-    Writers,
-    Holder,
-    Guest,
-    Sharer,
-    Lone,
-}
-
-/// A role at an object, and whether it is at the direction back.
-#[derive(Clone, Copy)]
-pub struct RoleAt {
-    pub name: RoleName,
-    pub object: u64,
-    pub back: bool,
-}
-
-/// What a line asks for.
+/// A line: the process whose it is, what it asks for, and whether that is played apart.
 #[derive(Clone, Copy)]
 pub struct Line<'t> {
-    /// The number of the process whose line it is.
     pub process: Option<u64>,
-    /// Whether its process makes a call, which may be played apart, on its thread.
-    pub is_call: bool,
+    pub verb: Verb<'t>,
     pub apart: bool,
-    pub call: Call,
-    /// A word for bytes, or all that stands there.
-    pub text: &'t str,
 }
 
 /// The line in a text, if it is one. No other operands may stand there.
@@ -67,78 +26,110 @@ pub fn line_of(text: &str) -> Option<Line<'_>> {
     let mut words = text.split_whitespace();
     let first = words.next()?;
     let process = number_of(first);
-    let word = if process.is_some() {
-        words.next()?
-    } else {
-        first
+    let verb = match process {
+        None => of_scene(text, first, &mut words)?,
+        Some(process) => of_process(process, words.next()?, &mut words)?,
     };
-    let entry = entry_of(process, word)?;
-    let call = call_of(entry, &mut words)?;
-    let is_call = entry.speaker == Speaker::Caller || entry.speaker == Speaker::EachCaller;
-    let (text, apart) = match entry.operands.last() {
-        Some(Operand::Rest) => (rest_after(text, entry.operands.len()), false),
-        Some(Operand::Bytes) => (text_of(words.next()?)?, is_apart(&mut words)?),
-        _ => ("", is_apart(&mut words)?),
+    let apart = match verb {
+        Plan(_) | At(_, _) => false,
+        Makes(_, _) if process != Some(0) => is_apart(&mut words)?,
+        _ if words.next().is_some() => return None,
+        _ => false,
     };
-    if apart && (!is_call || process == Some(0)) {
-        return None;
-    }
     Some(Line {
         process,
-        is_call,
+        verb,
         apart,
-        call,
-        text,
     })
 }
 
-// The operands of a line, if they stand there.
-fn call_of(entry: Entry, words: &mut SplitWhitespace<'_>) -> Option<Call> {
-    let mut call = Call {
-        verb: entry.verb,
-        first: 0,
-        second: 0,
-        count: 0,
-        now: 0,
-        ms: 0,
-        notes: NoteSet::empty(),
-        object: 1,
-        flags: Flags::NONE,
-        role: None,
-    };
-    for operand in entry.operands.iter() {
-        call = with_operand(call, *operand, words)?;
-    }
-    Some(call)
+// A line of no process.
+fn of_scene<'t>(text: &'t str, word: &str, words: &mut Words<'t>) -> Option<Verb<'t>> {
+    Some(match word {
+        "kernel" => Kernel(number(words)?, number(words)?),
+        "plan" => Plan(rest_after(text, 1)),
+        "pipe" => Pipe(Mode::Message, number(words)?, number(words)?),
+        "stream" => Pipe(Mode::Stream, number(words)?, number(words)?),
+        "lone" => Lone(Mode::Message, number(words)?),
+        "lone_stream" => Lone(Mode::Stream, number(words)?),
+        "share" => Share(number(words)?, object(words)?),
+        "sema" => Sema(count(words)?, number(words)?),
+        "clock" => Clock(number(words)?),
+        "space" => Space(number(words)?),
+        "new_group" => NewGroup(number(words)?),
+        "stranger" => Stranger(number(words)?, number(words)?, role(words)??),
+        "left" => Left,
+        "rendez" => Level(number(words)?),
+        "at" => At(number(words)?, rest_after(text, 2)),
+        "acted" => Acted(number(words)?),
+        _ => return None,
+    })
 }
 
-// The same with one operand more. A text is left where it stands.
-fn with_operand(mut call: Call, operand: Operand, words: &mut SplitWhitespace<'_>) -> Option<Call> {
-    match operand {
-        Operand::First => call.first = number_of(words.next()?)?,
-        Operand::Second => call.second = number_of(words.next()?)?,
-        Operand::Count => call.count = count_of(words.next()?)?,
-        Operand::Room => call.first = room_of(words.next()?)?,
-        Operand::Until => {
-            call.now = number_of(words.next()?)?;
-            call.ms = count_of(words.next()?)?;
+// A line of this process: of each, of process 0 alone, or of the others alone.
+fn of_process<'t>(process: u64, word: &str, words: &mut Words<'t>) -> Option<Verb<'t>> {
+    Some(match word {
+        "fork" => Fork(role(words)?),
+        "rfork" => Rfork(flags(words)?, role(words)?),
+        "notepg" => NoteGroup(number(words)?, kinds(words)?),
+        "look" => Look,
+        "wakeup" => Makes(Wakeup(number(words)?, number(words)?), ""),
+        "note" => Makes(Note(number(words)?, kinds(words)?), ""),
+        "notes" => Makes(Notes, ""),
+        "put_back" => Makes(PutBack(kinds(words)?), ""),
+        _ if process == 0 => return of_zero(word, words),
+        "clock" => TakeSeat(object(words)?),
+        "waits" => Waits,
+        "ends" => Ends,
+        "points" => Points,
+        "posted" => Posted,
+        "write" => Makes(Write, bytes(words)?),
+        "write_within" => Makes(WriteWithin(deadline(words)?), bytes(words)?),
+        "write_long" => Makes(WriteLong, bytes(words)?),
+        _ => Makes(call_of(word, words)?, ""),
+    })
+}
+
+// A line of process 0 alone.
+fn of_zero<'t>(word: &str, words: &mut Words<'t>) -> Option<Verb<'t>> {
+    Some(match word {
+        "rendez" => GiveRendez,
+        "row" => GiveRow(number(words)?),
+        "pids_left" => PidsLeft,
+        "rendez_left" => RendezLeft,
+        "tick" => TickAt(number(words)?, object(words)?),
+        _ => return None,
+    })
+}
+
+// A call that writes nothing, of another process than 0.
+fn call_of(word: &str, words: &mut Words<'_>) -> Option<Call> {
+    Some(match word {
+        "sleep" => Sleep(number(words)?, number(words)?),
+        "sleep_within" => SleepWithin(deadline(words)?, number(words)?, number(words)?),
+        "tick" => Tick(number(words)?),
+        "read" => Read(room(words)?),
+        "read_within" => ReadWithin(deadline(words)?, room(words)?),
+        "try_read" => TryRead(room(words)?),
+        "read_block" => ReadBlock,
+        "next_piece" => NextPiece(room(words)?),
+        "read_exact" => ReadExact(room(words)?),
+        "hangup" => Hangup,
+        "hangup_read" => HangupRead,
+        "hangup_write" => HangupWrite,
+        "finish" => Finish,
+        "acquire" => Acquire,
+        "try_acquire" => TryAcquire,
+        "acquire_within" => AcquireWithin(deadline(words)?),
+        "release" => Release(count(words)?),
+        "rendezvous" => Rendezvous(number(words)?, number(words)?),
+        "rendezvous_within" => {
+            RendezvousWithin(deadline(words)?, number(words)?, number(words)?)
         }
-        Operand::Kinds => call.notes = kinds_of(words.next()?)?,
-        Operand::FlagBits => call.flags = flags_of(words.next()?)?,
-        Operand::Role => call.role = Some(role_of(words.next()?, words)?),
-        Operand::Object => {
-            if let Some(word) = words.next() {
-                call.object = object_of(word)?;
-            }
-        }
-        Operand::AnyRole => {
-            if let Some(word) = words.next() {
-                call.role = Some(role_of(word, words)?);
-            }
-        }
-        Operand::Bytes | Operand::Rest => {}
-    }
-    Some(call)
+        "rendezvous_word" => RendezvousWord(number(words)?, number(words)?),
+        "rendez" => Rendez,
+        _ => return None,
+    })
 }
 
 // What stands after so many words.
@@ -148,32 +139,33 @@ fn rest_after(text: &str, count: usize) -> &str {
         .unwrap_or("")
 }
 
-// A word for bytes, which `&` is not.
-fn text_of(word: &str) -> Option<&str> {
-    if word == "&" { None } else { bytes_of(word) }
+// A moment, and milliseconds.
+fn deadline(words: &mut Words<'_>) -> Option<Deadline> {
+    let now = number(words)?;
+    let ms = count(words)?;
+    Some(Deadline { now, ms })
 }
 
-// The role that begins with this word: `reader`, `reader 2`, `reader back` or `reader 2 back`.
-fn role_of(word: &str, words: &mut SplitWhitespace<'_>) -> Option<RoleAt> {
-    let mut role = RoleAt {
-        name: name_of(word)?,
-        object: 1,
-        back: false,
+// The role that stands there, if one does: `reader`, `reader 2`, `reader back` or `reader 2 back`.
+fn role(words: &mut Words<'_>) -> Option<Option<RoleAt>> {
+    let Some(name) = words.next() else {
+        return Some(None);
     };
+    let name = name_of(name)?;
+    let mut object = 1;
     let mut next = words.next();
     if let Some(word) = next {
         if word != "back" {
-            role.object = object_of(word)?;
+            object = object_of(word)?;
             next = words.next();
         }
     }
-    if let Some(word) = next {
-        if word != "back" {
-            return None;
-        }
-        role.back = true;
-    }
-    Some(role)
+    let back = match next {
+        None => false,
+        Some("back") => true,
+        Some(_) => return None,
+    };
+    Some(Some(RoleAt { name, object, back }))
 }
 
 // The role that a word names.
@@ -192,7 +184,7 @@ fn name_of(word: &str) -> Option<RoleName> {
 }
 
 // Whether `&` stands after the operands. Nothing else may stand there.
-fn is_apart(words: &mut SplitWhitespace<'_>) -> Option<bool> {
+fn is_apart(words: &mut Words<'_>) -> Option<bool> {
     match words.next() {
         None => Some(false),
         Some("&") if words.next().is_none() => Some(true),

@@ -66,7 +66,7 @@ impl Page {
             Answer::Told(from, to) => self.put_told(shown.told.get(from..to).unwrap_or(&[])),
             _ => {
                 self.put(MARK);
-                if !tell_answer(&mut self.text, answer, shown) {
+                if tell_answer(&mut self.text, answer, shown).is_err() {
                     self.lacks = true;
                 }
             }

@@ -1,65 +1,98 @@
-//! The lines of a scene: each word with the operands that stand after it. A new call is a variant,
-//! a row here, and an arm of the roles that make it.
-use Operand::*;
-use Speaker::*;
-use Verb::*;
+//! What a line asks for. A new call is a variant here, a row where it is read (`line`), and an arm
+//! of the roles that make it.
+use sync_base::{Flags, Mode, NoteSet};
 
-/// What a line asks for.
+/// A role, as a line names it.
 #[derive(Clone, Copy, PartialEq, Eq)]
-pub enum Verb {
-    // the first line
-    Kernel,
-    Plan,
-    // objects
-    Pipe,
-    Stream,
+pub enum RoleName {
+    Plain,
+    Reader,
+    Writer,
+    /// Each writer of a direction.
+    Writers,
+    Holder,
+    Guest,
+    Sharer,
     Lone,
-    LoneStream,
-    Share,
-    Sema,
-    Clock,
-    Space,
-    NewGroup,
+}
+
+/// A role at an object, and whether it is at the direction back.
+#[derive(Clone, Copy)]
+pub struct RoleAt {
+    pub name: RoleName,
+    pub object: u64,
+    pub back: bool,
+}
+
+/// A call with a deadline ends so many milliseconds from a moment on.
+#[derive(Clone, Copy)]
+pub struct Deadline {
+    pub now: u64,
+    pub ms: u32,
+}
+
+/// What a line asks for, with its operands in their order. Objects are named by their numbers.
+#[derive(Clone, Copy)]
+pub enum Verb<'t> {
+    // the first line
+    Kernel(u64, u64),
+    Plan(&'t str),
+    // objects
+    Pipe(Mode, u64, u64),
+    Lone(Mode, u64),
+    Share(u64, u64),
+    Sema(u32, u64),
+    Clock(u64),
+    Space(u64),
+    NewGroup(u64),
     // processes
-    Stranger,
-    Fork,
-    Rfork,
-    TakeSeat,
-    NoteGroup,
+    Stranger(u64, u64, RoleAt),
+    Fork(Option<RoleAt>),
+    Rfork(Flags, Option<RoleAt>),
+    TakeSeat(u64),
+    NoteGroup(u64, NoteSet),
     // what is given away, and what is left
     GiveRendez,
-    GiveRow,
+    GiveRow(u64),
     PidsLeft,
     RendezLeft,
-    TickAt,
+    TickAt(u64, u64),
     // calls on threads
     Waits,
     Ends,
     Left,
     Look,
-    Level,
+    Level(u64),
     // calls at points
-    At,
-    Acted,
+    At(u64, &'t str),
+    Acted(u64),
     Points,
     Posted,
+    /// A call, with a word for the bytes that it writes.
+    Makes(Call, &'t str),
+}
+
+/// A call that a process makes in its role.
+#[derive(Clone, Copy)]
+pub enum Call {
     // sleep(2), postnote(2)
-    Sleep,
-    SleepWithin,
-    Wakeup,
-    Note,
+    Sleep(u64, u64),
+    SleepWithin(Deadline, u64, u64),
+    Wakeup(u64, u64),
+    Tick(u64),
+    Note(u64, NoteSet),
     Notes,
-    PutBack,
+    PutBack(NoteSet),
     // pipe(2)
     Write,
-    WriteWithin,
+    WriteWithin(Deadline),
     WriteLong,
-    Read,
-    ReadWithin,
-    TryRead,
+    Read(u64),
+    ReadWithin(Deadline, u64),
+    TryRead(u64),
     ReadBlock,
-    NextPiece,
-    ReadExact,
+    NextPiece(u64),
+    ReadExact(u64),
     Hangup,
     HangupRead,
     HangupWrite,
@@ -67,152 +100,23 @@ pub enum Verb {
     // semacquire(2)
     Acquire,
     TryAcquire,
-    AcquireWithin,
-    Release,
-    Tick,
+    AcquireWithin(Deadline),
+    Release(u32),
     // rendezvous(2)
-    Rendezvous,
-    RendezvousWithin,
-    RendezvousWord,
+    Rendezvous(u64, u64),
+    RendezvousWithin(Deadline, u64, u64),
+    RendezvousWord(u64, u64),
     // the Rendez in which a process waits for a unit, or for a partner
     Rendez,
 }
 
-/// What stands after a word.
-#[derive(Clone, Copy, PartialEq, Eq)]
-pub enum Operand {
-    /// The first number, and the second one.
-    First,
-    Second,
-    /// A number of 32 bits.
-    Count,
-    /// A number of bytes that a read has room for.
-    Room,
-    /// A moment, and milliseconds.
-    Until,
-    Kinds,
-    FlagBits,
-    Bytes,
-    /// The number of an object, which may be left out.
-    Object,
-    Role,
-    /// A role that may be left out.
-    AnyRole,
-    /// All that stands there.
-    Rest,
-}
-
-/// Whose line it is.
-#[derive(Clone, Copy, PartialEq, Eq)]
-pub enum Speaker {
-    /// No process's.
-    Scene,
-    /// Of process 0 alone, of the others alone, and of both.
-    Zero,
-    Other,
-    Each,
-    /// A call, of the others alone, and of process 0 too, which makes none that may wait.
-    Caller,
-    EachCaller,
-}
-
-/// A word with what it asks for.
-#[derive(Clone, Copy)]
-pub struct Entry {
-    pub speaker: Speaker,
-    pub verb: Verb,
-    pub operands: &'static [Operand],
-}
-
-/// Whose line it is, its word, what it asks for, and what stands after it.
-const LINES: [(Speaker, &str, Verb, &[Operand]); 58] = [
-    (Scene, "kernel", Kernel, &[First, Second]),
-    (Scene, "plan", Plan, &[Rest]),
-    (Scene, "pipe", Pipe, &[First, Second]),
-    (Scene, "stream", Stream, &[First, Second]),
-    (Scene, "lone", Lone, &[First]),
-    (Scene, "lone_stream", LoneStream, &[First]),
-    (Scene, "share", Share, &[First, Object]),
-    (Scene, "sema", Sema, &[Count, First]),
-    (Scene, "clock", Clock, &[First]),
-    (Scene, "space", Space, &[First]),
-    (Scene, "new_group", NewGroup, &[First]),
-    (Scene, "stranger", Stranger, &[First, Second, Role]),
-    (Scene, "left", Left, &[]),
-    (Scene, "rendez", Level, &[First]),
-    (Scene, "at", At, &[First, Rest]),
-    (Scene, "acted", Acted, &[First]),
-    (Each, "fork", Fork, &[AnyRole]),
-    (Each, "rfork", Rfork, &[FlagBits, AnyRole]),
-    (Each, "notepg", NoteGroup, &[First, Kinds]),
-    (Each, "look", Look, &[]),
-    (Zero, "rendez", GiveRendez, &[]),
-    (Zero, "row", GiveRow, &[First]),
-    (Zero, "pids_left", PidsLeft, &[]),
-    (Zero, "rendez_left", RendezLeft, &[]),
-    (Zero, "tick", TickAt, &[First, Object]),
-    (Other, "clock", TakeSeat, &[Object]),
-    (Other, "waits", Waits, &[]),
-    (Other, "ends", Ends, &[]),
-    (Other, "points", Points, &[]),
-    (Other, "posted", Posted, &[]),
-    (EachCaller, "wakeup", Wakeup, &[First, Second]),
-    (EachCaller, "note", Note, &[First, Kinds]),
-    (EachCaller, "notes", Notes, &[]),
-    (EachCaller, "put_back", PutBack, &[Kinds]),
-    (Caller, "sleep", Sleep, &[First, Second]),
-    (Caller, "sleep_within", SleepWithin, &[Until, First, Second]),
-    (Caller, "write", Write, &[Bytes]),
-    (Caller, "write_within", WriteWithin, &[Until, Bytes]),
-    (Caller, "write_long", WriteLong, &[Bytes]),
-    (Caller, "read", Read, &[Room]),
-    (Caller, "read_within", ReadWithin, &[Until, Room]),
-    (Caller, "try_read", TryRead, &[Room]),
-    (Caller, "read_block", ReadBlock, &[]),
-    (Caller, "next_piece", NextPiece, &[Room]),
-    (Caller, "read_exact", ReadExact, &[Room]),
-    (Caller, "hangup", Hangup, &[]),
-    (Caller, "hangup_read", HangupRead, &[]),
-    (Caller, "hangup_write", HangupWrite, &[]),
-    (Caller, "finish", Finish, &[]),
-    (Caller, "acquire", Acquire, &[]),
-    (Caller, "try_acquire", TryAcquire, &[]),
-    (Caller, "acquire_within", AcquireWithin, &[Until]),
-    (Caller, "release", Release, &[Count]),
-    (Caller, "tick", Tick, &[First]),
-    (Caller, "rendezvous", Rendezvous, &[First, Second]),
-    (
-        Caller,
-        "rendezvous_within",
-        RendezvousWithin,
-        &[Until, First, Second],
-    ),
-    (Caller, "rendezvous_word", RendezvousWord, &[First, Second]),
-    (Caller, "rendez", Rendez, &[]),
-];
-
-impl Speaker {
-    // Whether this process, or none, says such a line.
-    fn is(self, process: Option<u64>) -> bool {
+impl Call {
+    /// For how many bytes it has room, if it is a read that says so.
+    pub fn room(self) -> Option<u64> {
         match self {
-            Scene => process.is_none(),
-            Zero => process == Some(0),
-            Each | EachCaller => process.is_some(),
-            Other | Caller => process.is_some() && process != Some(0),
+            Call::Read(count) | Call::ReadWithin(_, count) | Call::TryRead(count) => Some(count),
+            Call::NextPiece(count) | Call::ReadExact(count) => Some(count),
+            _ => None,
         }
     }
-}
-
-/// What a word of this process asks for, or one of no process.
-pub fn entry_of(process: Option<u64>, word: &str) -> Option<Entry> {
-    for (speaker, name, verb, operands) in LINES.iter() {
-        if *name == word && speaker.is(process) {
-            return Some(Entry {
-                speaker: *speaker,
-                verb: *verb,
-                operands: *operands,
-            });
-        }
-    }
-    None
 }

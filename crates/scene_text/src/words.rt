@@ -1,5 +1,9 @@
 //! What a word stands for.
+use std::str::SplitWhitespace;
 use sync_base::{Flags, Note, NoteSet};
+
+/// The words of a line that are still to be read.
+pub type Words<'t> = SplitWhitespace<'t>;
 
 /// A number has one spelling, without a sign and with no zero in front.
 pub fn number_of(word: &str) -> Option<u64> {
@@ -9,9 +13,14 @@ pub fn number_of(word: &str) -> Option<u64> {
     word.parse::<u64>().ok()
 }
 
-/// A number of 32 bits.
-pub fn count_of(word: &str) -> Option<u32> {
-    u32::try_from(number_of(word)?).ok()
+/// The next number.
+pub fn number(words: &mut Words<'_>) -> Option<u64> {
+    number_of(words.next()?)
+}
+
+/// The next number, of 32 bits.
+pub fn count(words: &mut Words<'_>) -> Option<u32> {
+    u32::try_from(number(words)?).ok()
 }
 
 /// The number of an object, which is counted from 1.
@@ -22,12 +31,20 @@ pub fn object_of(word: &str) -> Option<u64> {
     }
 }
 
+/// The number of the next object, which may be left out.
+pub fn object(words: &mut Words<'_>) -> Option<u64> {
+    match words.next() {
+        Some(word) => object_of(word),
+        None => Some(1),
+    }
+}
+
 /// The most bytes that `N*x` stands for, and the most that a read has room for.
 const MOST_BYTES: u64 = 268_435_456;
 
-/// So many bytes, if they are not too many.
-pub fn room_of(word: &str) -> Option<u64> {
-    match number_of(word) {
+/// The next number of bytes, if they are not too many.
+pub fn room(words: &mut Words<'_>) -> Option<u64> {
+    match number(words) {
         Some(count) if count <= MOST_BYTES => Some(count),
         _ => None,
     }
@@ -52,10 +69,12 @@ fn run_of(word: &str) -> Option<Run> {
     }
 }
 
-/// A word for bytes, if they are not too many.
-pub fn bytes_of(word: &str) -> Option<&str> {
+/// The next word for bytes, which `&` is not, if they are not too many.
+pub fn bytes<'t>(words: &mut Words<'t>) -> Option<&'t str> {
+    let word = words.next()?;
     match run_of(word) {
         Some(run) if run.count > MOST_BYTES => None,
+        _ if word == "&" => None,
         _ => Some(word),
     }
 }
@@ -100,8 +119,9 @@ fn kind_of(word: &str) -> Option<Note> {
     None
 }
 
-/// Kinds of notes with a comma between each two, or `-` for none.
-pub fn kinds_of(word: &str) -> Option<NoteSet> {
+/// The next kinds of notes, with a comma between each two, or `-` for none.
+pub fn kinds(words: &mut Words<'_>) -> Option<NoteSet> {
+    let word = words.next()?;
     let mut notes = NoteSet::empty();
     if word == "-" {
         return Some(notes);
@@ -122,10 +142,11 @@ fn flag_of(word: &str) -> Option<Flags> {
     }
 }
 
-/// Flags of rfork with a comma between each two, `-` for none, or their bits as a number.
-pub fn flags_of(word: &str) -> Option<Flags> {
-    if number_of(word).is_some() {
-        return Some(Flags::from_bits(count_of(word)?));
+/// The next flags of rfork, with a comma between each two, `-` for none, or their bits as a number.
+pub fn flags(words: &mut Words<'_>) -> Option<Flags> {
+    let word = words.next()?;
+    if let Some(bits) = number_of(word) {
+        return Some(Flags::from_bits(u32::try_from(bits).ok()?));
     }
     let mut flags = Flags::NONE;
     if word == "-" {

@@ -4,7 +4,7 @@ use Rattle.std.proofs.Crossing.{crosses}
 use Rattle.p9lab.proofs.Sending.{caller_field, caller_send, reply_send}
 use Rattle.p9lab.proofs.progress.Progress.TheSendSync as progress
 use Rattle.p9lab.proofs.progress.Stops.TheSendSync as stops
-use Rattle.scene_text.proofs.line.Call.TheSendSync as call
+use Rattle.scene_text.proofs.verbs.Call.TheSendSync as call
 use Rattle.p9lab.proofs.calling.start_call.Goals as goal
 
 -- what the closure takes along
