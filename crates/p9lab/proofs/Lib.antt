@@ -1,2 +1,1 @@
-mod LoneLemmas
 mod Sending

@@ -13,9 +13,7 @@ use Rattle.block_queue.specs.contracts.spare.Spare as Spare
 use Rattle.sleep_wakeup.proofs.proc.Proc.TheSendSync as proc
 use Rattle.pipe_dev.specs.contracts.remainder.Remainder as Remainder
 use Rattle.pipe_dev.specs.contracts.read_end.ReadEnd as ReadEnd
-use Rattle.pipe_dev.specs.contracts.write_end.WriteEnd as WriteEnd
 use Rattle.pipe_dev.proofs.read_end.ReadEnd.TheSendSync as read_end
-use Rattle.pipe_dev.proofs.write_end.WriteEnd.TheSendSync as write_end
 use Rattle.plan9.proofs.pipes.Reader.TheSendSync as reader
 use Rattle.plan9.proofs.pipes.Writer.TheSendSync as writer
 use Rattle.plan9.proofs.pool.Holder.TheSendSync as holder
@@ -27,8 +25,6 @@ use Rattle.p9lab.specs.contracts.caller.Caller as Caller
 use Rattle.p9lab.specs.contracts.caller.Means as Means
 use Rattle.p9lab.specs.contracts.caller.Reply as Reply
 use Rattle.p9lab.specs.contracts.caller.Role as Role
-use Rattle.p9lab.specs.contracts.lone.Both as Both
-use Rattle.p9lab.specs.contracts.lone.Lone as Lone
 
 -- ---- ends that are lent
 
@@ -57,29 +53,6 @@ ruleset end_parts = (
 read_sync : (p : NamedLft) → IsSync (ReadEnd.the_row p)
 read_sync p = search end_parts depth 40
 
-write_sync : (p : NamedLft) → IsSync (WriteEnd.the_row p)
-write_sync p = search end_parts depth 40
-
--- ---- who may call at either end
-
-ruleset both_parts = (
-  sendable,
-  crosses,
-  counted.the_sync,
-  read_end.the_send,
-  write_end.the_send,
-  read_sync,
-  write_sync,
-)
-
-both_sync : IsSync Both.the_row
-both_sync = search both_parts depth 30
-
-ruleset lone_parts = (sendable, crosses, both_sync, proc.the_send)
-
-lone_field : IsSend Lone.the_field.row
-lone_field = search lone_parts depth 30
-
 -- ---- who shares a read end
 
 ruleset sharer_parts = (
@@ -105,7 +78,6 @@ ruleset role_parts = (
   holder.the_send,
   guest.the_send,
   sharer_field,
-  lone_field,
 )
 
 role_field : IsSend Role.the_field.row

@@ -1,5 +1,4 @@
 //! A process in its role, and the calls that a line may make of it.
-use crate::lone::{Lone, call_lone};
 use crate::progress::{Progress, Stops, Visitor};
 use crate::roles::{call_guest, call_holder, call_plain, call_reader, call_sharer, call_writer};
 use plan9::{Guest, Holder, NoProbe, Probe, Proc, Reader, Sharer, Watch, Writer};
@@ -8,10 +7,15 @@ use scene_text::verbs::{Call, RoleAt};
 use std::alloc::Global;
 use std::sync::Wait;
 
-/// A process of the library, and a member of a tag space, as a scene has them.
+/// A process of the library, as a scene has it.
 pub type OwnProc = Proc<'static>;
 
+/// A process with a seat at a semaphore, in a tag space, and with turns at a shared end.
+pub type Seat = Holder<'static, 'static>;
+
 pub type Member = Guest<'static, 'static>;
+
+pub type Turns = Sharer<'static, 'static, 'static>;
 
 /// Who a process is.
 #[derive(Drop)]
@@ -19,11 +23,10 @@ pub enum Role {
     Plain(OwnProc),
     Reader(Reader<'static, 'static>),
     Writer(Writer<'static, 'static>),
-    Holder(Holder<'static, 'static>),
+    Holder(Seat),
     /// None while it rforks.
     Guest(Option<Member>),
-    Sharer(Sharer<'static, 'static, 'static>),
-    Lone(Lone),
+    Sharer(Turns),
 }
 
 /// What a process has for its calls: memory, the bytes that it writes or has read, and its seat at
@@ -95,21 +98,11 @@ fn answer_to(
 
 // Whether this call of a role takes a probe.
 fn takes_probe(role: &Role, call: Call) -> bool {
-    match role {
-        Role::Plain(_) | Role::Reader(_) | Role::Writer(_) => matches!(call, Call::Sleep(_, _)),
-        Role::Holder(_) => {
-            matches!(
-                call,
-                Call::Acquire | Call::TryAcquire | Call::AcquireWithin(_)
-            )
-        }
-        Role::Guest(_) => {
-            matches!(
-                call,
-                Call::Rendezvous(_, _) | Call::RendezvousWithin(_, _, _)
-            )
-        }
-        Role::Sharer(_) | Role::Lone(_) => false,
+    match (role, call) {
+        (Role::Plain(_) | Role::Reader(_) | Role::Writer(_), Call::Sleep(_, _)) => true,
+        (Role::Holder(_), Call::Acquire | Call::TryAcquire | Call::AcquireWithin(_)) => true,
+        (Role::Guest(_), Call::Rendezvous(_, _) | Call::RendezvousWithin(_, _, _)) => true,
+        _ => false,
     }
 }
 
@@ -129,7 +122,6 @@ fn make_call(
         Role::Guest(Some(guest)) => call_guest(rt, guest, means, call, probe),
         Role::Guest(None) => Some(NOT_HERE),
         Role::Sharer(sharer) => Some(call_sharer(rt, sharer, &mut means.bytes, call)),
-        Role::Lone(lone) => call_lone(rt, lone, means, call),
     };
     answer.unwrap_or(NO_CLOCK)
 }

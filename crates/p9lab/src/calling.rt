@@ -20,22 +20,20 @@ pub enum Until {
     Waits,
 }
 
-// Starts a call on a thread of its own. Where no thread can be made its process is gone.
+// Starts a call on a thread of its own, if one can be made.
 fn start_call<R: Threads + Wait + Copy + Send + 'static>(
     rt: &R,
     caller: Caller,
     call: Call,
     stops: Stops,
     progress: &'static Progress,
-) -> State {
+) -> Option<JoinHandle<Reply>> {
     let rt = *rt;
-    match thread::spawn(&rt, move || run(&rt, caller, call, stops, progress)) {
-        Ok(handle) => State::Calls(handle),
-        Err(_) => State::Gone,
-    }
+    thread::spawn(&rt, move || run(&rt, caller, call, stops, progress)).ok()
 }
 
-/// Starts a call of a process, if it is here; else it says why not.
+/// Starts a call of a process, if it is here; else it says why not. Where no thread can be made the
+/// process is gone.
 pub fn start(
     rt: &impl Host,
     process: &mut Process,
@@ -45,9 +43,12 @@ pub fn start(
     match mem::replace(&mut process.state, State::Gone) {
         State::Here(caller) => {
             process.progress.begin();
-            let state = start_call(rt, caller, call, stops, process.progress);
-            set(&mut process.state, state);
-            started(process)
+            let Some(thread) = start_call(rt, caller, call, stops, process.progress) else {
+                process.progress.end();
+                return Err(Answer::Fault(Fault::Device));
+            };
+            set(&mut process.state, State::Calls(thread));
+            Ok(())
         }
         other => {
             set(&mut process.state, other);
@@ -56,42 +57,17 @@ pub fn start(
     }
 }
 
-// Whether its call runs now.
-fn started(process: &Process) -> Result<(), Answer> {
-    if calls(process) {
-        return Ok(());
-    }
-    process.progress.end();
-    Err(Answer::Fault(Fault::Device))
-}
-
-// Whether its call runs on a thread.
-fn calls(process: &Process) -> bool {
-    matches!(&process.state, State::Calls(_))
-}
-
 // The answer of a call that has ended. The process is here again.
 fn join(rt: &impl Host, process: &mut Process) -> Answer {
-    match call_of(&mut process.state) {
-        Some(handle) => come_back(&mut process.state, handle.join(rt)),
-        None => Answer::Word("not started"),
-    }
-}
-
-// The process is here again, and its call is answered.
-fn come_back(state: &mut State, reply: Reply) -> Answer {
-    let Reply { caller, answer } = reply;
-    set(state, State::Here(caller));
-    answer
-}
-
-// The thread of its call, if it makes one.
-fn call_of(state: &mut State) -> Option<JoinHandle<Reply>> {
-    match mem::replace(state, State::Gone) {
-        State::Calls(handle) => Some(handle),
+    match mem::replace(&mut process.state, State::Gone) {
+        State::Calls(thread) => {
+            let Reply { caller, answer } = thread.join(rt);
+            set(&mut process.state, State::Here(caller));
+            answer
+        }
         other => {
-            set(state, other);
-            None
+            set(&mut process.state, other);
+            Answer::Word("not started")
         }
     }
 }
@@ -177,7 +153,7 @@ impl CalledOff {
 /// gets none: nobody of its kernel is here to send it.
 pub fn interrupt_at(scene: &mut Scene, at: usize) -> bool {
     match scene.processes.get(at) {
-        Some(process) if calls(process) => {
+        Some(process) if matches!(&process.state, State::Calls(_)) => {
             if process.number < STRANGERS {
                 let pid = process.progress.pid;
                 let _ = scene.zero.postnote(pid, NoteSet::of(Note::Interrupt));

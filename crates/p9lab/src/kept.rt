@@ -37,10 +37,8 @@ pub struct KeptLines<'t> {
 impl<'t> KeptLines<'t> {
     /// Before any was written down.
     pub fn none() -> KeptLines<'t> {
-        let row = KeptLine {
-            point: 0,
-            answer: Some(Answer::Nothing),
-        };
+        let answer = Some(Answer::Nothing);
+        let row = KeptLine { point: 0, answer };
         let texts = [""; LINES];
         KeptLines {
             rows: [row; LINES],
@@ -99,11 +97,7 @@ impl<'t> KeptLines<'t> {
     // The line with this number, counted from 1.
     fn row(&self, number: u64) -> Option<KeptLine> {
         let at = number.checked_sub(1)? as usize;
-        if at < self.count {
-            self.rows.get(at).copied()
-        } else {
-            None
-        }
+        self.rows.get(..self.count)?.get(at).copied()
     }
 }
 
@@ -132,11 +126,8 @@ fn keep_line<'t>(scene: &mut Scene<'t>, point: u64, text: &'t str) -> Option<Ans
     if point == 0 {
         return None;
     }
-    let number = text
-        .split_whitespace()
-        .next()
-        .and_then(number_of)
-        .unwrap_or(0);
+    let first = text.split_whitespace().next();
+    let number = first.and_then(number_of).unwrap_or(0);
     if number > 0 {
         line_of(text)?;
         place_of(&scene.processes, number)?;
@@ -224,6 +215,7 @@ fn told_in(scene: &mut Scene, number: u64, answer: Answer) -> Answer {
     let from = scene.told.len();
     let shown = shown_of(&scene.processes, number);
     match tell_answer(&mut scene.told, answer, shown) {
+        Ok(()) if scene.told.len() == from => Answer::Nothing,
         Ok(()) => Answer::Told(from, scene.told.len()),
         Err(_) => Answer::Fault(Fault::Memory),
     }
@@ -252,21 +244,14 @@ pub fn leave(rt: &impl Host, scene: &mut Scene) -> CalledOff {
 // Ends each call that runs by now, of the strangers or of the others, in the order of their places.
 fn end_calls(rt: &impl Host, scene: &mut Scene, strangers: bool, off: &mut CalledOff) {
     for at in 0..usize::MAX {
-        if at >= scene.processes.len() {
+        let Some(process) = scene.processes.get(at) else {
             break;
-        }
-        if is_stranger(scene, at) == strangers && interrupt_at(scene, at) {
+        };
+        let is_stranger = process.number >= STRANGERS;
+        if is_stranger == strangers && interrupt_at(scene, at) {
             let came = comes_served(rt, scene, at, Until::Ends);
             ending(rt, scene, at, Until::Ends, came);
             off.count(came);
         }
-    }
-}
-
-// Whether a stranger has this place.
-fn is_stranger(scene: &Scene, at: usize) -> bool {
-    match scene.processes.get(at) {
-        Some(process) => process.number >= STRANGERS,
-        None => false,
     }
 }

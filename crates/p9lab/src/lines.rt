@@ -1,6 +1,5 @@
 //! What a line does, up to what it waits for.
 use crate::calling::{Until, start};
-use crate::lone::make_lone;
 use crate::objects::{index_of, make_clock, make_group, make_pipe, make_sema, make_space, share};
 use crate::progress::status_of;
 use crate::roles::call_at_once;
@@ -26,17 +25,20 @@ pub enum Step {
 /// Begins a line. One that is none comes to nothing.
 pub fn begin(rt: &impl Host, scene: &mut Scene, line: &Line) -> Option<Step> {
     let number = line.process.unwrap_or(0);
-    let at = if number > 0 {
-        place_of(&scene.processes, number)?
-    } else {
-        usize::MAX
+    let at = match number {
+        0 => usize::MAX,
+        _ => place_of(&scene.processes, number)?,
     };
     Some(match line.verb {
         Verb::Left => Step::CallsOff,
         verb if number == 0 => answered(answer(rt, scene, 0, verb)?),
         Verb::Waits => Step::Awaits(at, Until::Waits),
         Verb::Ends => Step::Awaits(at, Until::Ends),
-        Verb::Makes(call, bytes) => begin_call(rt, scene, at, call, bytes, line.apart),
+        Verb::Makes(call, bytes) => match begin_call(rt, scene, at, call, bytes) {
+            Ok(()) if line.apart => Step::Answered(Answer::Word("started")),
+            Ok(()) => Step::Awaits(at, Until::Ends),
+            Err(why) => Step::Answered(why),
+        },
         Verb::Look => Step::Answered(look_answer(scene, number)),
         Verb::TakeSeat(object) => answered(take_seat(rt, scene, at, object)),
         _ if caller_at(&mut scene.processes, at).is_none() => Step::Answered(NOT_HERE),
@@ -59,7 +61,6 @@ fn answer(rt: &impl Wait, scene: &mut Scene, number: u64, verb: Verb<'_>) -> Opt
     Some(match verb {
         Verb::Makes(call, _) => Ok(call_at_once(&mut scene.zero, call)),
         Verb::Pipe(mode, limit, writers) => make_pipe(scene, mode, limit, writers),
-        Verb::Lone(mode, limit) => make_lone(scene, mode, limit),
         Verb::Share(procs, object) => share(scene, object, procs),
         Verb::Sema(units, seats) => make_sema(scene, units, seats),
         Verb::Clock(seats) => make_clock(scene, seats),
@@ -113,12 +114,10 @@ fn level_of(scene: &Scene, rendez: u64) -> Option<Answer> {
     if rendez >= scene.kernel.rendez_count() {
         return None;
     }
-    let mut seen = Vec::new(scene.alloc);
-    for _ in 0..=rendez {
-        if seen.push(RendezStatus::default()).is_err() {
-            return Some(Answer::Fault(Fault::Memory));
-        }
-    }
+    let room = rendez as usize + 1;
+    let Ok(mut seen) = vec![in scene.alloc; RendezStatus::default(); room] else {
+        return Some(Answer::Fault(Fault::Memory));
+    };
     let look = scene.kernel.look(&mut [], seen.as_mut_slice());
     let status = look.rendez.get(rendez as usize).copied()?;
     Some(Answer::Level(status))
@@ -134,8 +133,7 @@ fn take_seat(rt: &impl Wait, scene: &mut Scene, at: usize, object: u64) -> Came 
     let Some(caller) = caller_at(&mut scene.processes, at) else {
         return Ok(NOT_HERE);
     };
-    let watch = clock.split(rt)?;
-    set(&mut caller.means.watch, Some(watch));
+    set(&mut caller.means.watch, Some(clock.split(rt)?));
     Ok(OK)
 }
 
@@ -146,22 +144,14 @@ fn begin_call(
     at: usize,
     call: Call,
     bytes: &str,
-    apart: bool,
-) -> Step {
-    let Some(process) = scene.processes.get_mut(at) else {
-        return Step::Answered(NOT_HERE);
-    };
+) -> Result<(), Answer> {
+    let process = scene.processes.get_mut(at).ok_or(NOT_HERE)?;
     if let State::Here(caller) = &mut process.state {
         if !bytes.is_empty() && !fill(&mut caller.means.bytes, bytes) {
-            return Step::Answered(Answer::Fault(Fault::Memory));
+            return Err(Answer::Fault(Fault::Memory));
         }
     }
-    if let Err(why) = start(rt, process, call, scene.kept.next_stops()) {
-        return Step::Answered(why);
-    }
+    start(rt, process, call, scene.kept.next_stops())?;
     scene.kept.take(at);
-    if apart {
-        return Step::Answered(Answer::Word("started"));
-    }
-    Step::Awaits(at, Until::Ends)
+    Ok(())
 }

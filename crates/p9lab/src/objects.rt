@@ -1,15 +1,12 @@
 //! The objects of a scene, each kind numbered from 1 in the order of its lines.
-ghost use Rattle.std.specs.Prelude.{IfOk};
 ghost use Rattle.plan9.specs.Openings.{IsStartOf};
 
-use crate::lone::LonePipe;
 use crate::scene::{Scene, keep, push, set};
 use plan9::{
     Clock, Ends, Fault, Hall, Kernel, Mode, OpenedPipe, Parts, Pipe, Pool, ReadEnd, Roster, Shared,
     Unshared, Watch, WriteEnd,
 };
 use scene_text::answer::{Answer, Came};
-use scene_text::verbs::RoleAt;
 use std::alloc::Global;
 
 /// The ends of one direction that nobody has yet.
@@ -35,7 +32,6 @@ pub struct Objects {
     pub halls: Vec<Option<Fresh<Hall>>>,
     pub clocks: Vec<Watch<'static>>,
     pub shared: Vec<Option<Fresh<Shared<'static>>>>,
-    pub lones: Vec<LonePipe>,
 }
 
 impl Objects {
@@ -47,15 +43,14 @@ impl Objects {
             halls: Vec::new(alloc),
             clocks: Vec::new(alloc),
             shared: Vec::new(alloc),
-            lones: Vec::new(alloc),
         }
     }
 
-    /// The direction at which a role is.
-    pub fn direction(&mut self, role: RoleAt) -> Option<&mut Direction> {
-        let back = if role.back { 1 } else { 0 };
-        let at = index_of(role.object).saturating_mul(2).saturating_add(back);
-        self.directions.get_mut(at)
+    /// A direction of the pipe with this number, if there is one.
+    pub fn direction(&mut self, object: u64, back: bool) -> Result<&mut Direction, Fault> {
+        let back = if back { 1 } else { 0 };
+        let at = index_of(object).saturating_mul(2).saturating_add(back);
+        self.directions.get_mut(at).ok_or(Fault::NoProc)
     }
 }
 
@@ -70,47 +65,31 @@ pub fn add<T: Drop>(kept: &mut Vec<T>, object: T) -> Came {
     Ok(Answer::Nothing)
 }
 
-/// A pipe of this mode.
-pub fn open_pipe(
-    alloc: Global,
-    roster: &mut Roster<'static>,
-    mode: Mode,
-    limit: u64,
-    writers: u64,
-) -> Result<OpenedPipe<'static>, Fault>
-    ensures { IfOk result (λ opened. IsStartOf opened.pipe opened.start) }
-{
+/// Makes a pipe of this mode, whose ends nobody has yet.
+pub fn make_pipe(scene: &mut Scene, mode: Mode, limit: u64, writers: u64) -> Came {
     match mode {
-        Mode::Message => Pipe::new(alloc, roster, limit, writers),
-        Mode::Stream => Pipe::new_stream(alloc, roster, limit, writers),
+        Mode::Message => {
+            let opened = Pipe::new(scene.alloc, &mut scene.roster, limit, writers)?;
+            lay_pipe(scene, opened)
+        }
+        Mode::Stream => {
+            let opened = Pipe::new_stream(scene.alloc, &mut scene.roster, limit, writers)?;
+            lay_pipe(scene, opened)
+        }
     }
 }
 
-/// Makes a pipe of this mode, whose ends nobody has yet.
-pub fn make_pipe(scene: &mut Scene, mode: Mode, limit: u64, writers: u64) -> Came {
-    let opened = open_pipe(scene.alloc, &mut scene.roster, mode, limit, writers)?;
-    lay_pipe(scene.alloc, &mut scene.objects.directions, opened)
-}
-
-// Lays the ends of both directions of a pipe with those that nobody has yet.
-fn lay_pipe(alloc: Global, directions: &mut Vec<Direction>, opened: OpenedPipe<'static>) -> Came
-    requires { IsStartOf opened.pipe opened.start }
-{
-    let Ends { first, second } = ends_of(alloc, opened)?;
-    let Parts { read, writes: back } = first.parts();
-    let Parts { read: away, writes } = second.parts();
-    add(directions, direction_of(read, writes))?;
-    add(directions, direction_of(away, back))
-}
-
-// Keeps a pipe, and takes its two ends.
-fn ends_of(alloc: Global, opened: OpenedPipe<'static>) -> Result<Ends<'static>, Fault>
+// Keeps a pipe, and lays the ends of both directions with those that nobody has yet.
+fn lay_pipe(scene: &mut Scene, opened: OpenedPipe<'static>) -> Came
     requires { IsStartOf opened.pipe opened.start }
 {
     let OpenedPipe { pipe, start } = opened;
-    let pipe = keep(alloc, pipe)?;
-    let pipe = &*pipe;
-    Ok(pipe.ends(start))
+    let pipe = &*keep(scene.alloc, pipe)?;
+    let Ends { first, second } = pipe.ends(start);
+    let Parts { read, writes: back } = first.parts();
+    let Parts { read: away, writes } = second.parts();
+    add(&mut scene.objects.directions, direction_of(read, writes))?;
+    add(&mut scene.objects.directions, direction_of(away, back))
 }
 
 // Writer 0 is the next one that is taken.
@@ -153,13 +132,8 @@ pub fn make_group(scene: &mut Scene, object: u64) -> Came {
 /// Lets so many processes share the read end of a pipe, if nobody has it. Where that is refused the
 /// end is there again.
 pub fn share(scene: &mut Scene, object: u64, procs: u64) -> Came {
-    let place = index_of(object).saturating_mul(2);
-    let Some(direction) = scene.objects.directions.get_mut(place) else {
-        return Err(Fault::NoProc);
-    };
-    let Some(taken) = direction.read.take() else {
-        return Err(Fault::NoProc);
-    };
+    let direction = scene.objects.direction(object, false)?;
+    let taken = direction.read.take().ok_or(Fault::NoProc)?;
     match Shared::new(scene.alloc, &mut scene.roster, taken, procs) {
         Ok(opened) => {
             let end = end_of(scene.kernel, &scene.roster);

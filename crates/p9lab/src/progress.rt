@@ -1,6 +1,7 @@
 //! How far the call of a process is, as its thread and the player of the scene see it.
 use plan9::{Kernel, Pid, Probe, ProcStatus};
 use scene_text::answer::Visit;
+use std::mem;
 use std::sync::atomic::Ordering::SeqCst;
 use std::sync::atomic::{AtomicBool, AtomicU64};
 use std::thread::yield_now;
@@ -62,19 +63,19 @@ impl Progress {
 
     // Whether the process stands posted in a Rendez.
     fn is_posted(&self) -> bool {
-        let mut statuses = [ProcStatus::default(); SEEN];
-        match status_of(self.kernel, &mut statuses, self.pid.0) {
-            Some(status) => status.posted.is_some(),
-            None => false,
-        }
+        let status = self.status(&mut [ProcStatus::default(); SEEN]);
+        status.posted.is_some()
     }
 
     /// Whether the process is posted, and nobody has marked it.
     pub fn waits(&self, statuses: &mut [ProcStatus]) -> bool {
-        match status_of(self.kernel, statuses, self.pid.0) {
-            Some(status) => status.posted.is_some() && !status.marked,
-            None => false,
-        }
+        let status = self.status(statuses);
+        status.posted.is_some() && !status.marked
+    }
+
+    // How the process stands, if it is among so many.
+    fn status(&self, statuses: &mut [ProcStatus]) -> ProcStatus {
+        status_of(self.kernel, statuses, self.pid.0).unwrap_or(ProcStatus::default())
     }
 
     // Stands there until it is let go, or too many turns have passed.
@@ -116,19 +117,17 @@ impl Stops {
     /// One stop more, in a call that is probed.
     pub fn add(&mut self, point: u64) {
         self.probed = true;
-        if point < POINTS as u64 {
-            self.at[point as usize] = true;
+        if let Some(stops) = self.at.get_mut(point as usize) {
+            *stops = true;
         }
     }
 
     // Whether the call stops at this point, as it does once.
     fn takes(&mut self, point: u64) -> bool {
-        if point >= POINTS as u64 {
-            return false;
+        match self.at.get_mut(point as usize) {
+            Some(stops) => mem::replace(stops, false),
+            None => false,
         }
-        let stops = self.at[point as usize];
-        self.at[point as usize] = false;
-        stops
     }
 }
 

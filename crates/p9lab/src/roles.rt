@@ -2,12 +2,13 @@
 //! not have.
 use crate::caller::Means;
 use plan9::{
-    Fault, Guest, Holder, Pid, Probe, Proc, Reader, RendezId, Sharer, ShortRead, Tag, Writer,
+    Fault, Guest, Holder, Long, Pid, Probe, Proc, Reader, RendezId, Sharer, ShortRead, Tag, Writer,
 };
 use scene_text::answer::{
     Answer, NOT_ITS_CALL, OK, done, have_piece, have_read, have_tried, have_written, numbered,
 };
 use scene_text::verbs::{Call, Deadline};
+use std::alloc::Global;
 use std::sync::Wait;
 
 /// A call of a process alone: sleep(2) and postnote(2).
@@ -20,17 +21,13 @@ pub fn call_plain(
 ) -> Option<Answer> {
     Some(match call {
         Call::Sleep(rendez, level) => {
-            done(
-                "woken",
-                proc.sleep_probed(rt, RendezId(rendez), level, probe),
-            )
+            let slept = proc.sleep_probed(rt, RendezId(rendez), level, probe);
+            done("woken", slept)
         }
         Call::SleepWithin(Deadline { now, ms }, rendez, level) => {
             let watch = means.watch.as_mut()?;
-            done(
-                "woken",
-                watch.sleep_within(rt, proc, RendezId(rendez), level, now, ms),
-            )
+            let slept = watch.sleep_within(rt, proc, RendezId(rendez), level, now, ms);
+            done("woken", slept)
         }
         Call::Tick(now) => {
             let watch = means.watch.as_mut()?;
@@ -96,8 +93,8 @@ fn have_filled(answer: Result<(), ShortRead>, count: usize) -> Answer {
     }
 }
 
-/// Makes room for the bytes of a read that says for how many. Whether there was memory.
-pub fn make_room(bytes: &mut Vec<u8>, call: Call) -> bool {
+// Makes room for the bytes of a read that says for how many. Whether there was memory.
+fn make_room(bytes: &mut Vec<u8>, call: Call) -> bool {
     let Some(count) = call.room() else {
         return true;
     };
@@ -119,18 +116,29 @@ pub fn call_writer(
         Call::Write => numbered("taken", writer.write(alloc, rt, bytes)),
         Call::WriteWithin(Deadline { now, ms }) => {
             let watch = means.watch.as_mut()?;
-            numbered(
-                "taken",
-                writer.write_within(alloc, rt, watch, now, ms, bytes),
-            )
+            let written = writer.write_within(alloc, rt, watch, now, ms, bytes);
+            numbered("taken", written)
         }
-        Call::WriteLong => have_written(writer.write_long(alloc, rt, bytes)),
+        Call::WriteLong => have_written(write_on(rt, alloc, writer, bytes)),
         Call::Hangup => {
             writer.hangup();
             OK
         }
         _ => return call_plain(rt, &mut writer.proc, means, call, probe),
     })
+}
+
+// A long write. Where it finds no memory it goes on once more, after what was taken.
+fn write_on(rt: &impl Wait, alloc: Global, writer: &mut Writer, bytes: &[u8]) -> Long {
+    let long = writer.write_long(alloc, rt, bytes);
+    match bytes.get(long.taken as usize..) {
+        Some(rest) if long.fault == Some(Fault::Memory) => {
+            let again = writer.write_long(alloc, rt, rest);
+            let taken = long.taken.saturating_add(again.taken);
+            Long { taken, ..again }
+        }
+        _ => long,
+    }
 }
 
 /// A call of a process that shares a read end with others.
@@ -158,10 +166,8 @@ pub fn call_holder(
         }
         Call::AcquireWithin(Deadline { now, ms }) => {
             let watch = means.watch.as_mut()?;
-            done(
-                "acquired",
-                holder.acquire_within_probed(rt, watch, now, ms, probe),
-            )
+            let came = holder.acquire_within_probed(rt, watch, now, ms, probe);
+            done("acquired", came)
         }
         Call::Release(count) => numbered("value", holder.release(rt, count).map(u64::from)),
         Call::Note(pid, notes) => done("ok", holder.postnote(Pid(pid), notes)),

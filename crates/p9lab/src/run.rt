@@ -67,11 +67,6 @@ pub fn run_words(
         let text = fs::read_to_string(rt, name.as_str());
         play_read(rt, turns, name.as_str(), text, &mut page, out, err);
     }
-    end(&page, err)
-}
-
-// Says how all went, and gives the status.
-fn end(page: &Page, err: &mut impl Write) -> u8 {
     let _ = page.report_all(err);
     if page.is_good() { GOOD } else { FAULT }
 }

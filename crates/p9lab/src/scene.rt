@@ -101,7 +101,8 @@ pub fn begin(alloc: Global, made: Result<OpenedKernel, Fault>) -> Begun
 /// A scene with this kernel, and nobody but process 0.
 pub fn open<'t>(alloc: Global, turns: u64, begun: Begun) -> Result<Scene<'t>, Fault> {
     let (kernel, Started { roster, proc: zero }) = begun?;
-    let statuses = room_for(alloc, kernel.proc_count())?;
+    // what a look at all processes shows
+    let statuses = vec![in alloc; ProcStatus::default(); kernel.proc_count() as usize]?;
     Ok(Scene {
         alloc,
         turns,
@@ -118,20 +119,9 @@ pub fn open<'t>(alloc: Global, turns: u64, begun: Begun) -> Result<Scene<'t>, Fa
     })
 }
 
-// Room for what a look at all processes shows.
-fn room_for(alloc: Global, procs: u64) -> Result<Vec<ProcStatus>, Fault> {
-    let mut statuses = Vec::new(alloc);
-    for _ in 0..procs {
-        statuses.push(ProcStatus::default())?;
-    }
-    Ok(statuses)
-}
-
 /// The place of the process with this number among these, if it has one. Process 0 has none.
 pub fn place_of(processes: &Vec<Process>, number: u64) -> Option<usize> {
-    processes
-        .iter()
-        .position(|process| process.number == number)
+    processes.iter().position(|it| it.number == number)
 }
 
 /// What is shown of the process with this number; nothing where it is not here.

@@ -1,6 +1,5 @@
 //! How a process is made and gets its role.
-use crate::caller::{Caller, Means, Member, OwnProc, Role};
-use crate::lone::lone_at;
+use crate::caller::{Caller, Means, Member, OwnProc, Role, Seat, Turns};
 use crate::objects::{Found, Objects, find, lay_hall};
 use crate::progress::Progress;
 use crate::scene::{
@@ -8,8 +7,8 @@ use crate::scene::{
     push, set,
 };
 use plan9::{
-    Fault, Flags, ForkedGuest, Hall, Holder, Kernel, NoteSet, Pid, ReadEnd, Reader, Refused,
-    Roster, Sharer, Started, Unforked, UnforkedGuest, WriteEnd, Writer, fork_writers,
+    Fault, Flags, ForkedGuest, Hall, Kernel, NoteSet, Pid, Reader, Refused, Roster, Started,
+    Unforked, UnforkedGuest, WriteEnd, Writer, fork_writers,
 };
 use scene_text::answer::{Answer, Came, NOBODY, NOT_ITS_CALL, numbered};
 use scene_text::verbs::{RoleAt, RoleName};
@@ -29,15 +28,34 @@ pub fn fork_holder(rt: &impl Wait, scene: &mut Scene, number: u64) -> Came {
         return Ok(NOT_ITS_CALL);
     };
     let child = holder.fork(rt, &mut scene.roster)?;
-    let pid = child.pid();
-    seat_role(scene, pid, Role::Holder(child), held)
+    seat_role(scene, child.pid(), Role::Holder(child), held)
 }
 
-/// `N rfork FLAGS`: a child of a guest, which is one as well; and else one alone.
+/// `N rfork FLAGS`: a child of a guest, which is one as well; and else one alone. A new space has
+/// the next number.
 pub fn rfork_alone(rt: &impl Wait, scene: &mut Scene, number: u64, flags: Flags) -> Came {
-    match take_guest(&mut scene.processes, number) {
-        Some((guest, held)) => rfork_guest(rt, scene, number, guest, held, flags),
-        None => fork(rt, scene, number, flags, role_at(RoleName::Plain, 1)),
+    let Some((guest, held)) = take_guest(&mut scene.processes, number) else {
+        return fork(rt, scene, number, flags, role_at(RoleName::Plain, 1));
+    };
+    match guest.rfork(scene.alloc, rt, &mut scene.roster, flags) {
+        Ok(ForkedGuest::Alone { guest }) => {
+            come_back(&mut scene.processes, number, guest);
+            Ok(NOBODY)
+        }
+        Ok(ForkedGuest::Child { guest, child }) => {
+            come_back(&mut scene.processes, number, guest);
+            seat_role(scene, child.pid(), Role::Guest(Some(child)), held)
+        }
+        Ok(ForkedGuest::Apart { hall, proc, .. }) => move_apart(rt, scene, number, hall, proc),
+        Ok(ForkedGuest::ChildApart { guest, hall, child }) => {
+            come_back(&mut scene.processes, number, guest);
+            let held = new_space(scene, hall)?;
+            place(rt, scene, child, held)
+        }
+        Err(UnforkedGuest { guest, fault }) => {
+            come_back(&mut scene.processes, number, guest);
+            Err(fault)
+        }
     }
 }
 
@@ -50,43 +68,10 @@ fn take_guest(processes: &mut Vec<Process>, number: u64) -> Option<(Member, Role
     }
 }
 
-// The rfork of a guest. A new space has the next number.
-fn rfork_guest(
-    rt: &impl Wait,
-    scene: &mut Scene,
-    number: u64,
-    guest: Member,
-    held: RoleAt,
-    flags: Flags,
-) -> Came {
-    match guest.rfork(scene.alloc, rt, &mut scene.roster, flags) {
-        Ok(ForkedGuest::Alone { guest }) => {
-            come_back(&mut scene.processes, number, held, Role::Guest(Some(guest)));
-            Ok(NOBODY)
-        }
-        Ok(ForkedGuest::Child { guest, child }) => {
-            come_back(&mut scene.processes, number, held, Role::Guest(Some(guest)));
-            let pid = child.pid();
-            seat_role(scene, pid, Role::Guest(Some(child)), held)
-        }
-        Ok(ForkedGuest::Apart { hall, proc, .. }) => move_apart(rt, scene, number, hall, proc),
-        Ok(ForkedGuest::ChildApart { guest, hall, child }) => {
-            come_back(&mut scene.processes, number, held, Role::Guest(Some(guest)));
-            let held = new_space(scene, hall)?;
-            place(rt, scene, child, held)
-        }
-        Err(UnforkedGuest { guest, fault }) => {
-            come_back(&mut scene.processes, number, held, Role::Guest(Some(guest)));
-            Err(fault)
-        }
-    }
-}
-
-// The process with this number has a role again.
-fn come_back(processes: &mut Vec<Process>, number: u64, held: RoleAt, role: Role) {
+// The guest with this number has its role again.
+fn come_back(processes: &mut Vec<Process>, number: u64, guest: Member) {
     if let Some(caller) = caller_in(processes, number) {
-        set(&mut caller.role, role);
-        caller.held = held;
+        set(&mut caller.role, Role::Guest(Some(guest)));
     }
 }
 
@@ -94,7 +79,10 @@ fn come_back(processes: &mut Vec<Process>, number: u64, held: RoleAt, role: Role
 fn move_apart(rt: &impl Wait, scene: &mut Scene, number: u64, hall: Hall, proc: OwnProc) -> Came {
     match first_guest(rt, scene, hall, proc) {
         Ok((role, held)) => {
-            come_back(&mut scene.processes, number, held, role);
+            if let Some(caller) = caller_in(&mut scene.processes, number) {
+                set(&mut caller.role, role);
+                caller.held = held;
+            }
             Ok(NOBODY)
         }
         Err(fault) => {
@@ -141,18 +129,13 @@ pub fn fork(rt: &impl Wait, scene: &mut Scene, number: u64, flags: Flags, role: 
             fork_sharer(rt, scene, flags, role)
         }
         RoleName::Writers if makes_one => fork_each_writer(scene, number, flags, role),
-        _ => match child_of(scene, number, flags)? {
-            Some(proc) => place(rt, scene, proc, role),
-            None => Ok(NOBODY),
-        },
-    }
-}
-
-// A child of the process with this number, if these flags ask for one.
-fn child_of(scene: &mut Scene, number: u64, flags: Flags) -> Result<Option<OwnProc>, Fault> {
-    match proc_in(&mut scene.zero, &mut scene.processes, number) {
-        Some(parent) => scene.roster.rfork(parent, flags),
-        None => Err(Fault::NoProc),
+        _ => {
+            let parent = proc_in(&mut scene.zero, &mut scene.processes, number);
+            match scene.roster.rfork(parent.ok_or(Fault::NoProc)?, flags)? {
+                Some(proc) => place(rt, scene, proc, role),
+                None => Ok(NOBODY),
+            }
+        }
     }
 }
 
@@ -163,13 +146,11 @@ fn is_alone(flags: Flags) -> bool {
 
 /// Posts notes to the group of a pid.
 pub fn note_group(scene: &mut Scene, number: u64, pid: u64, notes: NoteSet) -> Answer {
-    match proc_in(&mut scene.zero, &mut scene.processes, number) {
-        Some(poster) => {
-            let count = scene.roster.postnote_group(poster, Pid(pid), notes);
-            numbered("noted", count)
-        }
-        None => NOT_ITS_CALL,
-    }
+    let Some(poster) = proc_in(&mut scene.zero, &mut scene.processes, number) else {
+        return NOT_ITS_CALL;
+    };
+    let count = scene.roster.postnote_group(poster, Pid(pid), notes);
+    numbered("noted", count)
 }
 
 // The process with this number, if it is here and its role lends it.
@@ -185,7 +166,6 @@ fn proc_in<'a>(
         Role::Plain(proc) => Some(proc),
         Role::Reader(reader) => Some(&mut reader.proc),
         Role::Writer(writer) => Some(&mut writer.proc),
-        Role::Lone(lone) => Some(&mut lone.proc),
         _ => None,
     }
 }
@@ -193,28 +173,21 @@ fn proc_in<'a>(
 // ---- writers of a direction
 
 // A child for each write end of a direction that nobody has, the first one's writer first. Where it
-// is refused no pid is used up.
+// is refused no pid is used up. The answer is that of the last.
 fn fork_each_writer(scene: &mut Scene, number: u64, flags: Flags, role: RoleAt) -> Came {
-    let parent = proc_in(&mut scene.zero, &mut scene.processes, number);
-    let (Some(parent), Some(direction)) = (parent, scene.objects.direction(role)) else {
-        return Err(Fault::NoProc);
-    };
-    let ends = &mut direction.writes;
-    let mut writers = writers_of(scene.alloc, &mut scene.roster, parent, ends)?;
-    if is_alone(flags) {
-        part_each(&mut scene.roster, &mut writers);
+    let parent = proc_in(&mut scene.zero, &mut scene.processes, number).ok_or(Fault::NoProc)?;
+    let ends = &mut scene.objects.direction(role.object, role.back)?.writes;
+    let mut last = Ok(NOBODY);
+    for mut writer in writers_of(scene.alloc, &mut scene.roster, parent, ends)? {
+        if is_alone(flags) {
+            let _ = scene.roster.rfork(&mut writer.proc, Flags::RFNOTEG);
+        }
+        last = seat_role(scene, writer.proc.pid(), Role::Writer(writer), role);
     }
-    seat_each(scene, writers, role)
+    last
 }
 
-// Each of them leaves its note group, and is alone in a new one.
-fn part_each(roster: &mut Roster<'static>, writers: &mut Vec<Writer<'static, 'static>>) {
-    for writer in writers.iter_mut() {
-        let _ = roster.rfork(&mut writer.proc, Flags::RFNOTEG);
-    }
-}
-
-// Where that is refused the ends are there again.
+// The writers at these ends. Where they are refused the ends are there again.
 fn writers_of(
     alloc: Global,
     roster: &mut Roster<'static>,
@@ -236,16 +209,6 @@ fn writers_of(
             Err(fault)
         }
     }
-}
-
-// Gives each of these writers its place. The answer is that of the last.
-fn seat_each(scene: &mut Scene, writers: Vec<Writer<'static, 'static>>, held: RoleAt) -> Came {
-    let mut last = Ok(NOBODY);
-    for writer in writers {
-        let pid = writer.proc.pid();
-        last = seat_role(scene, pid, Role::Writer(writer), held);
-    }
-    last
 }
 
 // ---- places
@@ -321,41 +284,26 @@ pub fn seat_stranger(
 // The role of a process, with the end or the seat that it takes. Who is refused takes nothing
 // along.
 fn role_for(rt: &impl Wait, scene: &mut Scene, proc: OwnProc, role: RoleAt) -> Result<Role, Fault> {
-    match role.name {
-        RoleName::Plain => Ok(Role::Plain(proc)),
-        RoleName::Reader => match read_end_of(&mut scene.objects, role) {
-            Some(end) => Ok(Role::Reader(Reader::new(end, proc))),
-            None => Err(Fault::NoProc),
-        },
-        RoleName::Writer => match write_end_of(&mut scene.objects, role) {
-            Some(end) => Ok(Role::Writer(Writer::new(end, proc))),
-            None => Err(Fault::NoProc),
-        },
-        RoleName::Holder => Ok(Role::Holder(hold(rt, scene, proc, role)?)),
-        RoleName::Guest => Ok(Role::Guest(Some(admit(rt, scene, proc, role)?))),
-        RoleName::Sharer => Ok(Role::Sharer(first_sharer(&mut scene.objects, proc, role.object)?)),
-        RoleName::Lone => Ok(Role::Lone(lone_at(&scene.objects.lones, role.object, proc)?)),
-        RoleName::Writers => Err(Fault::NoProc),
-    }
-}
-
-// The read end of a direction, if nobody has it. It is then taken.
-fn read_end_of(objects: &mut Objects, role: RoleAt) -> Option<ReadEnd<'static>> {
-    objects.direction(role)?.read.take()
-}
-
-// The next write end of a direction, if there is one more. It is then taken.
-fn write_end_of(objects: &mut Objects, role: RoleAt) -> Option<WriteEnd<'static>> {
-    objects.direction(role)?.writes.pop()
+    let RoleAt { name, object, back } = role;
+    Ok(match name {
+        RoleName::Plain => Role::Plain(proc),
+        RoleName::Reader => {
+            let end = scene.objects.direction(object, back)?.read.take();
+            Role::Reader(Reader::new(end.ok_or(Fault::NoProc)?, proc))
+        }
+        RoleName::Writer => {
+            let end = scene.objects.direction(object, back)?.writes.pop();
+            Role::Writer(Writer::new(end.ok_or(Fault::NoProc)?, proc))
+        }
+        RoleName::Holder => Role::Holder(hold(rt, scene, proc, role)?),
+        RoleName::Guest => Role::Guest(Some(admit(rt, scene, proc, role)?)),
+        RoleName::Sharer => Role::Sharer(first_sharer(&mut scene.objects, proc, object)?),
+        RoleName::Writers => return Err(Fault::NoProc),
+    })
 }
 
 // The first process at a pool, or one more beside one that is there.
-fn hold(
-    rt: &impl Wait,
-    scene: &mut Scene,
-    proc: OwnProc,
-    role: RoleAt,
-) -> Result<Holder<'static, 'static>, Fault> {
+fn hold(rt: &impl Wait, scene: &mut Scene, proc: OwnProc, role: RoleAt) -> Result<Seat, Fault> {
     match find(&mut scene.objects.pools, role.object, proc.rendez_count()) {
         Found::Mine(pool) => Ok(for_good(pool).first(proc)?),
         Found::Foreign(pool) => Err(why_not(pool.first(proc))),
@@ -379,11 +327,7 @@ fn admit(rt: &impl Wait, scene: &mut Scene, proc: OwnProc, role: RoleAt) -> Resu
 }
 
 // The first that has turns at a shared end.
-fn first_sharer(
-    objects: &mut Objects,
-    proc: OwnProc,
-    object: u64,
-) -> Result<Sharer<'static, 'static, 'static>, Fault> {
+fn first_sharer(objects: &mut Objects, proc: OwnProc, object: u64) -> Result<Turns, Fault> {
     match find(&mut objects.shared, object, proc.rendez_count()) {
         Found::Mine(shared) => Ok(for_good(shared).first(proc)?),
         Found::Foreign(shared) => Err(why_not(shared.first(proc))),
@@ -408,8 +352,7 @@ fn fork_sharer(rt: &impl Wait, scene: &mut Scene, flags: Flags, held: RoleAt) ->
         return Err(Fault::NoProc);
     };
     let child = sharer.fork(rt, &mut scene.roster)?;
-    let pid = child.pid();
-    seat_role(scene, pid, Role::Sharer(child), held)
+    seat_role(scene, child.pid(), Role::Sharer(child), held)
 }
 
 // The first that is here in the role of this name, at the object with this number.

@@ -50,8 +50,6 @@ fn of_scene<'t>(text: &'t str, word: &str, words: &mut Words<'t>) -> Option<Verb
         "plan" => Plan(rest_after(text, 1)),
         "pipe" => Pipe(Mode::Message, number(words)?, number(words)?),
         "stream" => Pipe(Mode::Stream, number(words)?, number(words)?),
-        "lone" => Lone(Mode::Message, number(words)?),
-        "lone_stream" => Lone(Mode::Stream, number(words)?),
         "share" => Share(number(words)?, object(words)?),
         "sema" => Sema(count(words)?, number(words)?),
         "clock" => Clock(number(words)?),
@@ -115,9 +113,6 @@ fn call_of(word: &str, words: &mut Words<'_>) -> Option<Call> {
         "next_piece" => NextPiece(room(words)?),
         "read_exact" => ReadExact(room(words)?),
         "hangup" => Hangup,
-        "hangup_read" => HangupRead,
-        "hangup_write" => HangupWrite,
-        "finish" => Finish,
         "acquire" => Acquire,
         "try_acquire" => TryAcquire,
         "acquire_within" => AcquireWithin(deadline(words)?),
@@ -152,18 +147,12 @@ fn role(words: &mut Words<'_>) -> Option<Option<RoleAt>> {
         return Some(None);
     };
     let name = name_of(name)?;
-    let mut object = 1;
-    let mut next = words.next();
-    if let Some(word) = next {
-        if word != "back" {
-            object = object_of(word)?;
-            next = words.next();
-        }
-    }
-    let back = match next {
-        None => false,
-        Some("back") => true,
-        Some(_) => return None,
+    let (object, back) = match (words.next(), words.next()) {
+        (None, _) => (1, false),
+        (Some("back"), None) => (1, true),
+        (Some(word), None) => (object_of(word)?, false),
+        (Some(word), Some("back")) => (object_of(word)?, true),
+        _ => return None,
     };
     Some(Some(RoleAt { name, object, back }))
 }
@@ -178,7 +167,6 @@ fn name_of(word: &str) -> Option<RoleName> {
         "holder" => Some(RoleName::Holder),
         "guest" => Some(RoleName::Guest),
         "sharer" => Some(RoleName::Sharer),
-        "lone" => Some(RoleName::Lone),
         _ => None,
     }
 }

@@ -48,12 +48,7 @@ impl Page {
 
     /// Adds a text.
     pub fn put(&mut self, text: &str) {
-        self.put_bytes(text.as_bytes());
-    }
-
-    // Adds bytes.
-    fn put_bytes(&mut self, bytes: &[u8]) {
-        if self.text.extend_from_slice(bytes).is_err() {
+        if self.text.extend_from_slice(text.as_bytes()).is_err() {
             self.lacks = true;
         }
     }
@@ -61,25 +56,13 @@ impl Page {
     /// An answer, with what its process has read and visited, or what was told before, and the end
     /// of the line.
     pub fn put_answer(&mut self, answer: Answer, shown: Shown<'_>) {
-        match answer {
-            Answer::Nothing => {}
-            Answer::Told(from, to) => self.put_told(shown.told.get(from..to).unwrap_or(&[])),
-            _ => {
-                self.put(MARK);
-                if tell_answer(&mut self.text, answer, shown).is_err() {
-                    self.lacks = true;
-                }
+        if !matches!(answer, Answer::Nothing) {
+            self.put(MARK);
+            if tell_answer(&mut self.text, answer, shown).is_err() {
+                self.lacks = true;
             }
         }
         self.put("\n");
-    }
-
-    // An answer that was told before. No text is no answer.
-    fn put_told(&mut self, told: &[u8]) {
-        if !told.is_empty() {
-            self.put(MARK);
-            self.put_bytes(told);
-        }
     }
 
     /// Where the next answer begins.

@@ -8,8 +8,8 @@ use sync_base::{Fault, NoteSet};
 /// From how many bytes on a run of one byte is shown as `N*x`.
 const LONG: usize = 33;
 
-/// Adds bytes: `-` where there are none, and `N*x` for a long run of one.
-pub fn tell_bytes(told: &mut Vec<u8>, bytes: &[u8]) -> Result<()> {
+// Adds bytes: `-` where there are none, and `N*x` for a long run of one.
+fn tell_bytes(told: &mut Vec<u8>, bytes: &[u8]) -> Result<()> {
     match bytes {
         [] => told.write_all(b"-"),
         [first, ..] if bytes.len() >= LONG && bytes.iter().all(|byte| *byte == *first) => {
@@ -24,7 +24,7 @@ pub fn tell_bytes(told: &mut Vec<u8>, bytes: &[u8]) -> Result<()> {
 pub fn tell_answer(told: &mut Vec<u8>, answer: Answer, shown: Shown<'_>) -> Result<()> {
     let Shown { bytes, visits, .. } = shown;
     match answer {
-        Answer::Nothing | Answer::Told(_, _) => Ok(()),
+        Answer::Nothing => Ok(()),
         Answer::Word(word) => write!(told, "{word}"),
         Answer::Number(word, number) => write!(told, "{word} {number}"),
         Answer::Bytes(word, count) => {
@@ -44,6 +44,7 @@ pub fn tell_answer(told: &mut Vec<u8>, answer: Answer, shown: Shown<'_>) -> Resu
         Answer::Posted => tell_points(told, "posted", visits, true),
         Answer::Status(status) => tell_status(told, status),
         Answer::Level(status) => tell_level(told, status),
+        Answer::Told(from, to) => told.write_all(shown.told.get(from..to).unwrap_or(&[])),
     }
 }
 

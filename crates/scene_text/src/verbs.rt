@@ -13,7 +13,6 @@ pub enum RoleName {
     Holder,
     Guest,
     Sharer,
-    Lone,
 }
 
 /// A role at an object, and whether it is at the direction back.
@@ -39,7 +38,6 @@ pub enum Verb<'t> {
     Plan(&'t str),
     // objects
     Pipe(Mode, u64, u64),
-    Lone(Mode, u64),
     Share(u64, u64),
     Sema(u32, u64),
     Clock(u64),
@@ -94,9 +92,6 @@ pub enum Call {
     NextPiece(u64),
     ReadExact(u64),
     Hangup,
-    HangupRead,
-    HangupWrite,
-    Finish,
     // semacquire(2)
     Acquire,
     TryAcquire,

@@ -107,15 +107,15 @@ impl Lone {
     }
 }
 
-// Room for a seat.
-fn room_for_one(alloc: Global) -> Option<Vec<PutSeat>>
-    ensures none { IfSome result (λ puts. puts.items ≡ []) }
-    ensures room { IfSome result (λ puts. 1 ≤ vec_capacity puts) }
+/// Room for a seat, or an end.
+pub fn room_for_one<T: Drop>(alloc: Global) -> Option<Vec<T>>
+    ensures none { IfSome result (λ room. room.items ≡ []) }
+    ensures room { IfSome result (λ room. 1 ≤ vec_capacity room) }
 {
     match Vec::with_capacity(alloc, 1) {
-        Ok(puts) => Some(puts),
+        Ok(room) => Some(room),
         Err(_) => match Vec::with_capacity(alloc, 1) {
-            Ok(puts) => Some(puts),
+            Ok(room) => Some(room),
             Err(_) => None,
         },
     }

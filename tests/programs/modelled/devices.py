@@ -18,10 +18,6 @@ def bytes_word(data):
     return data.decode()
 
 
-def blocks_words(blocks):
-    return ", ".join(f"{writer} {bytes_word(data)}" for writer, data in blocks)
-
-
 # ---- timers
 
 
@@ -132,7 +128,7 @@ def write_once(proc, pipe, writer, data, watch=None):
         if slept.answer != "woken" or slept.is_note:
             return slept
     pipe.last += 1
-    number, block = pipe.last, [pipe.last, None, writer]
+    number, block = pipe.last, [pipe.last, None]
     pipe.blocks.append(block)
     yield STEP
     block[1] = data
@@ -176,7 +172,7 @@ class Reading:
             if pipe.rest:
                 data, pipe.rest = pipe.rest, b""
             elif pipe.blocks and pipe.blocks[0][1] is not None:
-                self.took, data, _ = pipe.blocks.pop(0)
+                self.took, data = pipe.blocks.pop(0)
                 pipe.taken = self.took
             else:
                 break
@@ -236,12 +232,6 @@ def read_exact(proc, pipe, count):
             return f"{ended.text()} {len(got)}"
         got += ended.answer
     return f"got {bytes_word(got)}"
-
-
-def finish(pipe):
-    """What is left of a direction whose ends all came back."""
-    rest = f"{'hungup' if pipe.hung else 'open'} rest {bytes_word(pipe.rest)}"
-    return ", ".join([rest, blocks_words((writer, data) for _, data, writer in pipe.blocks)]).removesuffix(", ")
 
 
 # ---- turns at a shared read end

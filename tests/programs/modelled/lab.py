@@ -16,12 +16,11 @@ CALLS = {
     "plain": ALONE,
     "reader": ALONE | {"read", "read_within", "try_read", "read_block", "next_piece", "read_exact", "hangup"},
     "writer": ALONE | {"write", "write_within", "write_long", "hangup"},
-    "lone": ALONE | {"read", "try_read", "read_block", "write", "write_long", "hangup_read", "hangup_write", "finish"},
     "holder": {"acquire", "try_acquire", "acquire_within", "release", "rendez", "note", "notes"},
     "guest": {"rfork", "rendezvous", "rendezvous_within", "rendezvous_word", "rendez", "note", "notes"},
     "sharer": {"read"},
 }
-FORKS = {"zero", "plain", "reader", "writer", "lone"}
+FORKS = {"zero", "plain", "reader", "writer"}
 PROBED = {"sleep": {"plain", "reader", "writer"}, "acquire": {"holder"}, "try_acquire": {"holder"}, "acquire_within": {"holder"},
           "rendezvous": {"guest"}, "rendezvous_within": {"guest"}}
 MOST_STEPS, MOST_KEPT = 3000, 8
@@ -70,7 +69,7 @@ class Run:
     def __init__(self, call):
         self.call, self.kept, self.due = call, None, []  # the kept lines of the point at which it stands are due
         self.points, self.posted, self.parked, self.is_stopped, self.answer = [], [], None, False, None
-        self.ends, self.moves = [], 0  # what is given back when it has ended, and how many steps it has made
+        self.moves = 0  # how many steps it has made
 
     def is_ready(self):
         if self.is_stopped:
@@ -84,20 +83,6 @@ class Actor:
     def __init__(self, proc, number, role, thing=None, seat=None):
         self.proc, self.number, self.role, self.thing, self.seat = proc, number, role, thing, seat
         self.run, self.is_gone, self.points, self.posted = None, False, [], []
-
-
-class Lone:
-    """A pipe with both ends of its first direction lying there: which of them a call has, or that both were given back."""
-
-    def __init__(self, pipe):
-        self.pipe, self.out, self.is_finished = pipe, set(), False
-
-    def lend(self, run, ends):
-        if self.is_finished or self.out & ends:
-            return False
-        self.out |= ends
-        run.ends = [(self, ends)]
-        return True
 
 
 class Order:
@@ -141,7 +126,7 @@ class Lab:
         self.order, self.may_wait, self.raced, self.steps = order, may_wait, False, 0
         self.kernel = self.roster = None
         self.actors, self.strangers = {}, 0
-        self.pipes, self.semas, self.clocks, self.spaces, self.turns, self.lones = ([] for _ in range(6))
+        self.pipes, self.semas, self.clocks, self.spaces, self.turns = ([] for _ in range(5))
         self.kept, self.acted, self.is_fresh, self.keeper = [], [], True, None
 
     # ---- lines
@@ -249,8 +234,6 @@ class Lab:
             what = next(run.call)
         except StopIteration as end:
             run.answer = end.value
-            for lone, ends in run.ends:
-                lone.out -= ends
             return
         if callable(what):
             run.parked = what
@@ -305,14 +288,7 @@ class Lab:
         if has_kept:
             self.is_fresh, self.keeper, run.kept = False, actor, self.kept
             actor.points, actor.posted = run.points, run.posted
-        if actor.role == "lone" and not isinstance(call, str) and not self.lend(actor, verb, run):
-            run.call = at_once(NOT_HERE)
         return run
-
-    def lend(self, actor, verb, run):
-        ends = {"read": "r", "try_read": "r", "read_block": "r", "hangup_read": "r", "write": "w", "write_long": "w",
-                "hangup_write": "w", "finish": "rw"}.get(verb, "")
-        return not ends or actor.thing.lend(run, set(ends))
 
     def after_all_turns(self, answer):
         if not self.may_wait:
@@ -390,7 +366,7 @@ class Lab:
 
     # ---- objects
 
-    def make_pipe(self, limit, writers, stream=False, kind=None):
+    def make_pipe(self, limit, writers, stream=False):
         limit, writers = int(limit), int(writers)
         if not 1 <= limit <= 1024 or not 1 <= writers <= 64:
             return "bad size"
@@ -398,20 +374,11 @@ class Lab:
         if first is None:
             return NO_RENDEZ
         ways = [dev.Direction(limit, writers, stream, first), dev.Direction(limit, writers, stream, first + 1 + writers)]
-        (self.pipes if kind is None else kind).append(ways)
+        self.pipes.append(ways)
         return None
 
     def make_stream(self, limit, writers):
         return self.make_pipe(limit, writers, True)
-
-    def make_lone(self, limit, stream=False):
-        made = []
-        answer = self.make_pipe(limit, "1", stream, made)
-        self.lones += [Lone(ways[0]) for ways in made]
-        return answer
-
-    def make_lone_stream(self, limit):
-        return self.make_lone(limit, True)
 
     def make_sema(self, units, seats):
         units, seats = int(units), int(seats)
@@ -538,7 +505,7 @@ class Lab:
             return NO_PROC
         if role in ("reader", "writer"):
             return self.cast_at_pipe(proc, number, role, self.way(which, is_back))
-        kind = {"holder": self.semas, "guest": self.spaces, "sharer": self.turns, "lone": self.lones}[role]
+        kind = {"holder": self.semas, "guest": self.spaces, "sharer": self.turns}[role]
         if not 1 <= which <= len(kind) or number >= 1024 and role == "sharer" and kind[which - 1].line.given:
             return NO_PROC
         thing = kind[which - 1]
@@ -560,16 +527,14 @@ class Lab:
         return Actor(proc, number, role, way, way.written - 1)
 
     def cast_at(self, proc, number, role, thing):
-        if role in ("holder", "guest", "sharer"):
-            row = thing.line if role == "sharer" else thing
-            size = row.members if role == "guest" else row.seats
-            if proc.kernel.rendez < row.first + size:
-                return NO_RENDEZ
-            if row.given == size:
-                return NO_PROC
-            row.given += 1
-            return Actor(proc, number, role, thing, row.given - 1)
-        return Actor(proc, number, role, thing, 0)
+        row = thing.line if role == "sharer" else thing
+        size = row.members if role == "guest" else row.seats
+        if proc.kernel.rendez < row.first + size:
+            return NO_RENDEZ
+        if row.given == size:
+            return NO_PROC
+        row.given += 1
+        return Actor(proc, number, role, thing, row.given - 1)
 
     def clock(self, actor, words):
         number = int((words or ["1"])[0])
@@ -651,38 +616,33 @@ class Lab:
     def call_read(self, actor, _, numbers):
         if actor.role == "sharer":
             return dev.read_in_turn(actor.proc, actor.thing, actor.seat, numbers[0])
-        return dev.read(actor.proc, self.pipe_of(actor), numbers[0])
+        return dev.read(actor.proc, actor.thing, numbers[0])
 
     call_next_piece = call_read
 
     def call_try_read(self, actor, _, numbers):
-        return dev.read(actor.proc, self.pipe_of(actor), numbers[0], False)
+        return dev.read(actor.proc, actor.thing, numbers[0], False)
 
     def call_read_within(self, actor, _, numbers):
         return dev.read_within(actor.proc, actor.thing, *numbers)
 
     def call_read_block(self, actor, *_):
-        return dev.read(actor.proc, self.pipe_of(actor), None)
+        return dev.read(actor.proc, actor.thing, None)
 
     def call_read_exact(self, actor, _, numbers):
         return dev.read_exact(actor.proc, actor.thing, numbers[0])
 
     def call_write(self, actor, words, _):
-        return dev.write(actor.proc, self.pipe_of(actor), actor.seat or 0, bytes_of(words[0]))
+        return dev.write(actor.proc, actor.thing, actor.seat, bytes_of(words[0]))
 
     def call_write_within(self, actor, words, numbers):
         return dev.write_within(actor.proc, actor.thing, actor.seat, *numbers[:2], bytes_of(words[2]))
 
     def call_write_long(self, actor, words, _):
-        return dev.write_long(actor.proc, self.pipe_of(actor), actor.seat or 0, bytes_of(words[0]))
+        return dev.write_long(actor.proc, actor.thing, actor.seat, bytes_of(words[0]))
 
     def call_hangup(self, actor, *_):
-        return dev.hangup(actor.proc, self.pipe_of(actor))
-
-    call_hangup_read = call_hangup_write = call_hangup
-
-    def call_finish(self, actor, *_):
-        return done(lambda: setattr(actor.thing, "is_finished", True) or dev.finish(actor.thing.pipe))
+        return dev.hangup(actor.proc, actor.thing)
 
     def call_acquire(self, actor, *_):
         return dev.acquire(actor.proc, actor.thing, actor.seat)
@@ -719,9 +679,6 @@ class Lab:
 
     def call_rendez_left(self, *_):
         return done(lambda: f"rendez {self.roster.rendez_left()}")
-
-    def pipe_of(self, actor):
-        return actor.thing.pipe if actor.role == "lone" else actor.thing
 
 
 def at_once(answer):

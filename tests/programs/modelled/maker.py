@@ -15,7 +15,7 @@ ORDERS, MOST_CALLS, STRANGERS = 16, 34, 1024
 WAITING = {"sleep", "sleep_within", "read", "read_within", "read_block", "next_piece", "read_exact", "write", "write_within",
            "write_long", "acquire", "acquire_within", "rendezvous", "rendezvous_within", "rendezvous_word"}
 # What a role calls more often than the rest of its calls.
-OFTEN = {"reader": ["read", "read_within", "try_read", "read_block"], "writer": ["write", "write_within"], "lone": ["read", "write"],
+OFTEN = {"reader": ["read", "read_within", "try_read", "read_block"], "writer": ["write", "write_within"],
          "plain": ["sleep", "sleep_within"], "holder": ["acquire", "acquire_within", "release"],
          "guest": ["rendezvous", "rendezvous_within"], "zero": ["note", "tick"], "sharer": ["read"]}
 # How many points a call has.
@@ -181,7 +181,7 @@ class Maker:
         if dice.random() < 0.12:
             return self.tell(self.looks())
         verb = self.verb(actor)
-        if actor.role in ("reader", "writer", "lone") and dice.random() < 0.6:
+        if actor.role in ("reader", "writer") and dice.random() < 0.6:
             verb = self.filling(actor)
         is_probed = actor.role in PROBED.get(verb, ())
         if verb in POINTS and is_probed and dice.random() < 0.3:
@@ -222,17 +222,15 @@ class Maker:
         if actor.role in OFTEN and dice.random() < 0.6:
             return dice.choice(OFTEN[actor.role])
         if actor.role != "zero" and dice.random() < 0.03:
-            return dice.choice(sorted(ALONE | {"read", "write", "hangup", "acquire", "release", "rendezvous", "finish"}))
+            return dice.choice(sorted(ALONE | {"read", "write", "hangup", "acquire", "release", "rendezvous"}))
         return dice.choice(sorted(CALLS[actor.role] - {"room"}))
 
     def filling(self, actor):
         """A read where something is there, and a write where there is room: so a pipe has more than one write now and then."""
-        pipe = self.lab.pipe_of(actor)
+        pipe = actor.thing
         is_full = len(pipe.blocks) >= pipe.limit
-        reads = ["read", "read", "try_read", "read_block"] + ["next_piece", "read_exact", "read_within"] * (actor.role == "reader")
-        writes = ["write", "write", "write_long"] + ["write_within"] * (actor.role == "writer")
-        if actor.role == "lone":
-            return self.dice.choice(reads if is_full else writes)
+        reads = ["read", "read", "try_read", "read_block", "next_piece", "read_exact", "read_within"]
+        writes = ["write", "write", "write_long", "write_within"]
         if actor.role == "reader":
             return self.dice.choice(reads if is_full or self.dice.random() < 0.4 else ["sleep", "notes", "wakeup", "try_read"])
         return self.dice.choice(["sleep", "notes", "hangup", "write"] if is_full else writes)
@@ -248,7 +246,7 @@ class Maker:
         dice = self.dice
         size = dice.choice([0, 1, 2, 1024, 1025])
         here = self.idle() if dice.random() < 0.9 else [it for it in self.lab.actors.values() if not it.is_gone]
-        forker = dice.choice([it for it in here if it.role in ("zero", "plain", "reader", "writer", "lone", "holder")])
+        forker = dice.choice([it for it in here if it.role in ("zero", "plain", "reader", "writer", "holder")])
         back = dice.choice(["", "", " back"])
         number = forker.number
         fork = f"{number} fork {self.role()}" if forker.role != "holder" else f"{number} fork"
@@ -257,7 +255,7 @@ class Maker:
         others = [] if forker.role == "holder" else [rfork]
         return [fork, *others, "0 fork writers" + back, f"pipe {size} {dice.choice([0, 1, 64, 65])}", f"stream {size} 1",
                 f"sema {dice.choice([0, 1, 2147483647, 2147483648])} {size}", f"space {size}", f"clock {size}", "new_group 1",
-                "lone 1", f"share {size}", f"0 row {dice.choice([0, 1, 2, 9])}", "0 pids_left", "0 rendez_left", "left",
+                f"share {size}", f"0 row {dice.choice([0, 1, 2, 9])}", "0 pids_left", "0 rendez_left", "left",
                 f"{dice.choice(self.idle()).number} rendez", f"{dice.choice(self.idle()[-1:]).number} clock" if self.idle()[1:] else "left",
                 f"stranger {dice.choice([0, 1, 2, 1025])} {dice.choice([0, 1, 9, 8193])} {self.role()}"]
 
@@ -292,8 +290,7 @@ class Maker:
             return ["rendezvous", words[-2], str(self.dice.randrange(9))] if words[0].startswith("rendezvous") else ["notes"]
         if other.role == "holder":
             return ["release", str(self.dice.choice([1, 1, 2]))]
-        verb = {"reader": "read", "writer": "write", "sharer": "read",
-                "lone": "write" if words[0].startswith("read") else "read"}.get(other.role, "notes")
+        verb = {"reader": "read", "writer": "write", "sharer": "read"}.get(other.role, "notes")
         return [verb, *self.operands(other, verb)]
 
     # ---- kept lines

@@ -2,19 +2,19 @@
 
 Each is played by a maker with those who are idle, and makes nothing where somebody that it needs is missing.
 """
-SLEEPERS = {"plain", "reader", "writer", "lone"}
+SLEEPERS = {"plain", "reader", "writer"}
 
 
 def at_direction(maker):
     """A direction with its idle reader and its idle writers, if there is one."""
     ways = {}
     for actor in maker.idle():
-        if actor.role in ("reader", "writer", "lone"):
-            ways.setdefault(maker.lab.pipe_of(actor), []).append(actor)
+        if actor.role in ("reader", "writer"):
+            ways.setdefault(actor.thing, []).append(actor)
     rows = []
     for way, actors in ways.items():
-        readers, writers = ([it for it in actors if it.role in (role, "lone")] for role in ("reader", "writer"))
-        rows += [(way, readers[0], [it for it in writers if it is not readers[0]] or writers)] if readers and writers else []
+        readers, writers = ([it for it in actors if it.role == role] for role in ("reader", "writer"))
+        rows += [(way, readers[0], writers)] if readers and writers else []
     return maker.dice.choice(rows) if rows else (None, None, [])
 
 
@@ -25,9 +25,8 @@ def write(maker, writers, data):
 
 
 def hang_up(maker, actor):
-    verb = {"lone": maker.dice.choice(["hangup_read", "hangup_write"])}.get(actor.role, "hangup")
     if not actor.run:
-        maker.make_call(actor, [verb])
+        maker.make_call(actor, ["hangup"])
 
 
 def fill_a_pipe(maker):
@@ -77,13 +76,13 @@ def send_whole_blocks(maker):
     if not writer:
         return
     size = dice.choice([65535, 65536, 65536, 65537])
-    verb = dice.choice(["write", "write", "write_long"] + ["write_within"] * (writer.role == "writer"))
+    verb = dice.choice(["write", "write", "write_long", "write_within"])
     if verb == "write_long":
         size = dice.choice([65536, 65537, 65540, 131072, 131073])
     maker.make_call(writer, [verb, *(maker.moment() if "within" in verb else []), f"{size}*{dice.choice('xyz')}"])
     for _ in range(dice.choice([1, 2, 3])):
         if not reader.run:
-            verb = dice.choice(["read", "try_read", "read_block"] + ["read_exact"] * (reader.role == "reader"))
+            verb = dice.choice(["read", "try_read", "read_block", "read_exact"])
             maker.make_call(reader, [verb] + [str(dice.choice([65535, 65536, 65537, 70000]))] * (verb != "read_block"))
 
 
@@ -99,8 +98,7 @@ def hang_up_and_go_on(maker):
         write(maker, writers, data)
     for _ in range(dice.choice([1, 2, 3])):
         if not reader.run:
-            exact = ["read_exact"] * (reader.role == "reader")
-            maker.make_call(reader, [dice.choice(["read", "try_read", *exact]), str(dice.choice([1, 2, 8, 0]))])
+            maker.make_call(reader, [dice.choice(["read", "try_read", "read_exact"]), str(dice.choice([1, 2, 8, 0]))])
 
 
 def meet_a_deadline(maker):
@@ -193,7 +191,7 @@ def grant_at_a_point(maker):
 def wake_at_a_point(maker):
     """A wakeup, a note and looks between the steps of a sleep, and then another sleep."""
     dice = maker.dice
-    sleepers = [it for it in maker.idle() if it.role in {"plain", "reader", "writer"} and it.number < 1024]
+    sleepers = [it for it in maker.idle() if it.role in SLEEPERS and it.number < 1024]
     if not sleepers:
         return
     actor = dice.choice(sleepers)
@@ -270,7 +268,7 @@ def raise_a_level(maker):
     maker.tell(f"rendez {place}" if place < maker.lab.kernel.rendez else "0 notes")
 
 
-PIPES, UNITS, TAGS = {"reader", "lone"}, {"holder"}, {"guest"}
+PIPES, UNITS, TAGS = {"reader"}, {"holder"}, {"guest"}
 # Each with how often it is made, and the roles of which it needs one.
 MOVES = [(2, fill_a_pipe, PIPES), (3, pass_empty_writes, PIPES), (1, send_whole_blocks, PIPES), (1, hang_up_and_go_on, PIPES),
          (1, meet_a_deadline, {"plain", "reader"}), (2, meet_a_deadline, UNITS | TAGS), (1, note_a_group, {"zero"}), (2, line_up, UNITS),

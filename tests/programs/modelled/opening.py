@@ -1,8 +1,8 @@
 """What a scene begins with: its kernel, its objects, and processes with a role at them."""
 
 # The kinds of objects, each with how often a scene has one.
-KINDS_OF_OBJECTS = {"pipe": 6, "stream": 5, "sema": 7, "space": 5, "lone": 2, "share": 1, "family": 4, "plain": 3, "clock": 2}
-ROLES = ["plain", "reader", "writer", "holder", "guest", "sharer", "reader back", "writer back", "lone"]
+KINDS_OF_OBJECTS = {"pipe": 7, "stream": 6, "sema": 7, "space": 5, "share": 1, "family": 4, "plain": 3, "clock": 2}
+ROLES = ["plain", "reader", "writer", "holder", "guest", "sharer", "reader back", "writer back"]
 
 
 class Opening:
@@ -61,10 +61,6 @@ class Opening:
         count, number = self.dice.choice([2, 3]), self.add("pipe", "pipe 2 1", 4)
         self.fork("writer", number)
         self.fork("sharer", self.add("share", f"share {count} {number}", count), count=count)
-
-    def add_lone(self):
-        line = f"{self.dice.choice(['lone', 'lone_stream'])} {self.dice.choice([1, 2, 3])}"
-        self.fork("lone", self.add("lone", line, 4), count=self.dice.choice([1, 2, 3]))
 
     def add_sema(self):
         count = self.dice.choice([2, 3, 3, 4])

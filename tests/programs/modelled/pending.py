@@ -8,7 +8,6 @@ KINDS = ("alarm", "interrupt,expired")
 # What is made first, in which process 1 is the caller, or 0 where there is none; the states that it can find; and its calls.
 PIPE = ["kernel 5 9", "{mode} 1 1", "0 fork reader", "0 fork writer", "0 fork plain", "clock 4", "1 clock", "2 clock"]
 WRITER = [*PIPE[:2], "0 fork writer", "0 fork reader", *PIPE[4:]]
-LONE = ["kernel 5 9", "{lone} 1", *["0 fork lone"] * 3]
 PLAIN = ["kernel 4 2", *["0 fork plain"] * 2, "clock 4", "1 clock", "2 clock"]
 SEMA = ["kernel 4 4", "sema {units} 2", *["0 fork holder"] * 2, "0 fork plain", "clock 4", "1 clock"]
 SPACE = ["kernel 4 4", "space 2", *["0 fork guest"] * 2, "0 fork plain", "clock 4", "1 clock"]
@@ -20,11 +19,11 @@ SEEN = ["rendez", "note 0 alarm", "notes"]
 SLEEPS = ["sleep 0 0", "sleep_within 100 50 0 0", "sleep 0 18446744073709551615", "sleep_within 100 50 0 18446744073709551615"]
 READS = ["read 3", "read_within 100 50 3", "try_read 3", "read_block", "next_piece 3", "read_exact 4", "read 0", "read_within 100 50 0"]
 WRITES = ["write x", "write -", "write_within 100 50 x", "write_long x", "write_long 65537*x", "write 65537*x", "hangup"]
-READ_STATES = [[], ["2 write abc"], ["2 write -"], ["2 hangup"], ["3 sleep 0 0 &"]]
-WRITE_STATES = [[], ["1 write abc"], ["2 hangup"], ["1 write abc", "3 sleep 1 0 &"]]
+READ_STATES = [[], ["2 write abc"], ["2 write abc", "1 read 1"], ["2 write -"], ["2 hangup"], ["3 sleep 0 0 &"]]
+WRITE_STATES = [[], ["1 write abc"], ["1 write abc", "2 read 1"], ["2 hangup"], ["1 write abc", "3 sleep 1 0 &"]]
 UNITS = ["acquire", "try_acquire", "acquire_within 100 50", "release 1", "release 2147483647", *SEEN]
 MEETS = ["rendezvous 7 5", "rendezvous_within 100 50 7 5", "rendezvous_word 7 5", *SEEN]
-MODES = [("a pipe", {"mode": "pipe", "lone": "lone"}), ("a stream", {"mode": "stream", "lone": "lone_stream"})]
+MODES = [("a pipe", {"mode": "pipe"}), ("a stream", {"mode": "stream"})]
 
 
 def rows():
@@ -35,9 +34,6 @@ def rows():
         yield mode, names, WRITER, WRITE_STATES, WRITES
         yield mode, names, PIPE, [[]], anybody
         yield mode, names, WRITER, [[]], anybody
-        yield (mode, names, LONE, [[], ["2 write abc"], ["2 write abc", "1 read 1"], ["2 hangup_write"]],
-               ["read 3", "try_read 3", "read_block", "write x", "write_long x", "finish", "hangup_read", "hangup_write"])
-        yield mode, names, [*LONE, "clock 4", "1 clock", "2 clock"], [[]], anybody
     yield "alone", {}, PLAIN, [[], ["2 wakeup 0 1"], ["2 sleep 0 0 &"]], anybody
     yield "process 0", {}, ZERO, [[], ["1 sleep 0 0 &"]], [*ANYBODY[:5], "notepg 0 hangup", "rendez", "row 2", "pids_left", "rendez_left"]
     for units in "0", "1":

@@ -1,8 +1,6 @@
 -- Both ends of a direction with one writer are all of its ends, and stay so.
 use Rattle.std.proofs.Common.{◌≡◌, ℕ, List, [], ◌∷◌, ◌++◌, length, sym, ◌∙◌, ap, subst, arith}
-use Rattle.std.specs.List.{AllByRecursion}
 use Rattle.histories.specs.Account.{numbers_from}
-use Rattle.histories.proofs.ListLemmas.{all_past}
 use Rattle.pipe_dev.specs.declared.row.Row.{Row}
 use Rattle.pipe_dev.specs.Ends.{ReadSide, WriteSide, AreAllEnds, IsSameReadEnd, IsSameWriteEnd}
 
@@ -38,29 +36,4 @@ still_written read old new all same =
         tt,
       );
       order = ap (λ (writer : ℕ). writer ∷ []) same.writer ∙ all.order;
-    }
-
--- and so do calls of both
-pub still_both : (read read' : ReadSide) (write write' : WriteSide)
-    → AreAllEnds read (write ∷ []) → IsSameReadEnd read read' → IsSameWriteEnd write write'
-    → AreAllEnds read' (write' ∷ [])
-still_both read read' write write' all read_same write_same =
-    still_read read read' write' (still_written read write write' all write_same) read_same
-
--- what is the same as one end in each place is so in the last
-pub last_is_same : (first : WriteSide) (all front : List WriteSide) (last : WriteSide)
-    → AllByRecursion (IsSameWriteEnd first) all → all ≡ front ++ last ∷ []
-    → IsSameWriteEnd first last
-last_is_same first all front last same is =
-    (all_past (IsSameWriteEnd first) front (last ∷ [])
-    (subst (AllByRecursion (IsSameWriteEnd first)) is same)).0
-
--- two calls leave a write end where it is
-pub same_twice : (old between new : WriteSide)
-    → IsSameWriteEnd old between → IsSameWriteEnd between new → IsSameWriteEnd old new
-same_twice old between new first second =
-    record {
-      queue = second.queue ∙ first.queue;
-      row = second.row ∙ first.row;
-      writer = second.writer ∙ first.writer;
     }
