@@ -278,7 +278,7 @@ class Lab:
 
     def begun(self, actor, verb, rest):
         """The call, which takes the lines that are kept; or one that is answered at once."""
-        has_kept = bool(actor.number and self.kept and self.is_fresh)
+        has_kept = bool(actor.number and self.kept and self.is_fresh and verb != "notepg")
         is_probed = actor.role in PROBED.get(verb, ())
         if has_kept and not is_probed:
             call = "not probed"
@@ -442,6 +442,8 @@ class Lab:
         if role == "sharer" and self.is_apart_beside(flags, rest):
             return NOT_ITS
         first = self.first_sharer(rest) if role == "sharer" else None
+        if first and flags == RFPROC and first.thing.line.given == first.thing.line.seats:
+            return NO_PROC
         child = self.roster.rfork(first.proc if first and flags & RFPROC else actor.proc, flags)
         if not isinstance(child, Proc):
             return child or "nobody"
@@ -460,7 +462,7 @@ class Lab:
     def first_sharer(self, rest):
         number = int((rest or ["1"])[0])
         turns = self.turns[number - 1] if 1 <= number <= len(self.turns) else None
-        return next((it for it in self.actors.values() if it.role == "sharer" and it.thing is turns), None)
+        return turns and next((it for it in self.actors.values() if it.role == "sharer" and it.thing is turns), None)
 
     def fork_holder(self, actor):
         sema = actor.thing
