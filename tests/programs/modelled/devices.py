@@ -34,14 +34,17 @@ class TimerSeat:
 
 
 def tick(proc, timers, now):
-    """Expires each timer whose deadline has come, the least deadline first and then the least seat."""
-    due = sorted((deadline, number) for number, (deadline, _) in timers.deadlines.items() if deadline <= now)
-    pids = [timers.deadlines.pop(number)[1] for _, number in due]
-    for pid in pids:
+    """Expires each timer whose deadline has come, one after another: the least deadline first and then the least seat."""
+    for count in range(timers.seats):
+        yield STEP
+        due = sorted((deadline, number) for number, (deadline, _) in timers.deadlines.items() if deadline <= now)
+        if not due:
+            return f"expired {count}"
+        _, pid = timers.deadlines.pop(due[0][1])
         yield STEP
         if pid < proc.kernel.procs:
             proc.kernel.post_notes(pid, EXPIRED)
-    return f"expired {len(due)}"
+    return f"expired {timers.seats}"
 
 
 class Watch:

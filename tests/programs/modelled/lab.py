@@ -1,8 +1,8 @@
 """Plays scenes on the model, by docs/SCENES.md: a line in, its answer out.
 
-Where several processes may go on, an `Order` says which of them makes the next step. `raced` says whether it ever had a choice.
+Where several processes may go on, an order (`orders`) says which of them makes the next step. `raced` says whether it ever had a
+choice.
 """
-import random
 import re
 
 from modelled import devices as dev
@@ -23,6 +23,8 @@ CALLS = {
 FORKS = {"zero", "plain", "reader", "writer"}
 PROBED = {"sleep": {"plain", "reader", "writer"}, "acquire": {"holder"}, "try_acquire": {"holder"}, "acquire_within": {"holder"},
           "rendezvous": {"guest"}, "rendezvous_within": {"guest"}}
+# The calls that do something before their first point or step.
+ACTS_AT_ONCE = {"wakeup", "hangup", "sleep_within"}
 MOST_STEPS, MOST_KEPT = 3000, 8
 
 
@@ -66,8 +68,9 @@ def flags_of(word):
 class Run:
     """A call under way: its generator, the lines that are kept for it, and what it has visited."""
 
-    def __init__(self, call):
+    def __init__(self, call, acts=True):
         self.call, self.kept, self.due = call, None, []  # the kept lines of the point at which it stands are due
+        self.acts = acts  # whether its next step does anything
         self.points, self.posted, self.parked, self.is_stopped, self.answer = [], [], None, False, None
         self.moves = 0  # how many steps it has made
 
@@ -85,40 +88,6 @@ class Actor:
         self.run, self.is_gone, self.points, self.posted = None, False, [], []
 
 
-class Order:
-    """Who goes first, by chance: each process has a rank, and the ranks are drawn anew as often as this order does so. So one may be
-    ahead of another for a whole call, as threads are."""
-
-    def __init__(self, seed):
-        self.dice, self.ranks = random.Random(seed), {}
-        self.change = self.dice.choice([0, 0.02, 0.1, 0.3, 1])
-
-    def first(self, ready):
-        if self.dice.random() < self.change:
-            self.ranks.clear()
-        return max(ready, key=lambda it: self.ranks.setdefault(it.number, self.dice.random()))
-
-    def steps(self):
-        """How many steps are made between two lines."""
-        return self.dice.choice([0, 0, 1, 2, 3, 5, 8, 40])
-
-
-class Extreme:
-    """The first process goes first, or the last; and between two lines all go on as far as they can, or nobody does."""
-
-    def __init__(self, sign, count):
-        self.sign, self.count = sign, count
-
-    def first(self, ready):
-        return max(ready, key=lambda it: self.sign * it.number)
-
-    def steps(self):
-        return self.count
-
-
-EXTREMES = [Extreme(sign, count) for sign in (1, -1) for count in (MOST_STEPS, 0)]
-
-
 class Lab:
     """With no order all go on as far as they can, the first one first."""
 
@@ -128,6 +97,7 @@ class Lab:
         self.actors, self.strangers = {}, 0
         self.pipes, self.semas, self.clocks, self.spaces, self.turns = ([] for _ in range(5))
         self.kept, self.acted, self.is_fresh, self.keeper = [], [], True, None
+        self.played, self.playing = 0, []  # how many lines were, and which are: one, and those that are kept in it
 
     # ---- lines
 
@@ -140,20 +110,29 @@ class Lab:
             return self.open(words)
         if words[0].isdigit() and not (int(words[0]) in self.actors):
             raise NotAScene(line)
-        self.steps = 0
-        answer = self.actor_line(words) if words[0].isdigit() else self.other_line(words)
-        self.go_on()
+        self.steps, self.played = 0, self.played + 1
+        if self.order:
+            self.go_on(self.order.steps(words))
+        self.playing.append(words)
+        try:
+            answer = self.actor_line(words) if words[0].isdigit() else self.other_line(words)
+        finally:
+            self.playing.pop()
+        if not self.order:
+            self.go_on(MOST_STEPS + 1)
         return answer
 
-    def go_on(self):
-        """Lets those that may go on do so: all that they can, or some of it."""
+    def go_on(self, steps):
+        """Lets those that may go on do so: all that they can, or so many steps of it."""
         self.raced |= bool(self.ready())
-        if self.order is None:
-            self.run_until(lambda: False)
-        else:
-            for _ in range(self.order.steps()):
-                if not self.step():
-                    break
+        for _ in range(steps):
+            if not self.step(True):
+                break
+
+    def whose(self, ready):
+        """The one of these that the line is of."""
+        number = self.playing[-1][0] if self.playing else ""
+        return next((it for it in ready if str(it.number) == number), None)
 
     def open(self, words):
         procs, rendez = planned(words[1:]) if words[0] == "plan" else map(int, words[1:])
@@ -206,8 +185,8 @@ class Lab:
     def ready(self):
         return [it for it in self.actors.values() if it.run and it.run.is_ready()]
 
-    def step(self):
-        """One step of one process. Whether there was one."""
+    def step(self, is_between=False):
+        """One step of one process. Whether there was one: between two lines there need not be."""
         ready = self.ready()
         if not ready:
             return False
@@ -215,8 +194,10 @@ class Lab:
         self.steps += 1
         if self.steps > MOST_STEPS:
             raise Spins()
-        self.advance(self.order.first(ready) if self.order else ready[0])
-        return True
+        first = self.order.first(ready, self, is_between) if self.order else ready[0]
+        if first:
+            self.advance(first)
+        return first is not None
 
     def run_until(self, is_done):
         while not is_done():
@@ -229,7 +210,7 @@ class Lab:
         if run.due:
             self.serve(run)
             return
-        run.parked, run.moves = None, run.moves + 1
+        run.parked, run.moves, run.acts = None, run.moves + 1, True
         try:
             what = next(run.call)
         except StopIteration as end:
@@ -284,7 +265,7 @@ class Lab:
             call = "not probed"
         else:
             call = self.call(actor, verb, rest) if verb in CALLS[actor.role] else NOT_ITS
-        run = actor.run = Run(at_once(call) if isinstance(call, str) else call)
+        run = actor.run = Run(at_once(call) if isinstance(call, str) else call, verb in ACTS_AT_ONCE)
         if has_kept:
             self.is_fresh, self.keeper, run.kept = False, actor, self.kept
             actor.points, actor.posted = run.points, run.posted
@@ -316,8 +297,10 @@ class Lab:
         count = 0
         while running := [it for it in self.actors.values() if it.run]:
             for it in running:
-                if it.run.answer is None and it.proc.kernel is self.kernel:
+                if it.proc.kernel is self.kernel:
                     self.kernel.post_notes(it.proc.pid, {"interrupt"})
+                    self.playing[-1] = ["left", count, it.number]
+                    self.go_on(self.order.steps(self.playing[-1]) if self.order else MOST_STEPS + 1)
             self.run_until(lambda: all(it.run.answer is not None for it in running))
             ended = [it for it in running if it.run.answer is not None]
             for it in ended:
@@ -333,7 +316,8 @@ class Lab:
         if line[:1].isdigit() and int(line.split(" ")[0]) not in self.actors:
             raise NotAScene(line)
         under_way = not self.is_fresh and self.keeper.run
-        if under_way and under_way.kept is self.kept and any(kept[2] is None for kept in self.kept):
+        is_ahead = under_way and under_way.kept is self.kept and under_way.answer is None
+        if is_ahead and any(kept[2] is None for kept in self.kept):
             return "too many"
         if not self.is_fresh:
             self.kept, self.is_fresh = [], True
@@ -613,7 +597,7 @@ class Lab:
         return done(lambda: actor.proc.put_back(notes_of(words[0])) or "ok")
 
     def call_notepg(self, actor, words, numbers):
-        return done(lambda: self.roster.note_group(actor.proc, numbers[0], notes_of(words[1])))
+        return self.roster.note_group(actor.proc, numbers[0], notes_of(words[1]))
 
     def call_read(self, actor, _, numbers):
         if actor.role == "sharer":

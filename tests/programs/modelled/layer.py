@@ -151,10 +151,12 @@ class Roster:
         return Proc(self.kernel, len(self.groups) - 1)
 
     def note_group(self, proc, pid, notes):
-        """Posts to each process of the group, in the caller's kernel."""
+        """Posts to each process of the group, one after another, in the caller's kernel."""
+        yield STEP
         if pid >= len(self.groups) or proc.kernel.procs < self.kernel.procs:
             return NO_PROC
         reached = [it for it, group in enumerate(self.groups) if group == self.groups[pid]]
         for it in reached:
+            yield STEP
             proc.kernel.post_notes(it, notes)
         return f"noted {len(reached)}"

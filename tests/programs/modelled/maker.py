@@ -6,10 +6,11 @@ differently where other processes go first is cut off.
 """
 import random
 
-from modelled.lab import ALONE, CALLS, EXTREMES, PROBED, Lab, NoAnswer, Order
+from modelled.lab import ALONE, CALLS, PROBED, Lab, NoAnswer
 from modelled.layer import KINDS, TOP_LEVEL
 from modelled.moves import SLEEPERS, move
 from modelled.opening import ROLES, Opening
+from modelled.orders import EXTREMES, Order
 
 ORDERS, MOST_CALLS, STRANGERS = 16, 34, 1024
 WAITING = {"sleep", "sleep_within", "read", "read_within", "read_block", "next_piece", "read_exact", "write", "write_within",
