@@ -5,7 +5,7 @@ mod RequestLemmas
 mod SemaLawLemmas
 mod SemaLemmas
 mod TellLemmas
-mod UnitLemmas
+pub mod UnitLemmas
 mod WokenLemmas
 mod WorkedAsking
 mod WorkedOpenings
