@@ -28,7 +28,7 @@ NO_CALL = ["sleep 0", "sleep 0 0 0", "Sleep 0 0", "sleep 00 0", "sleep 0 -1", "s
 # Lines that no call with a deadline and no tick is like.
 NO_DEADLINE = ["sleep_within 0 0", "sleep_within 1 0 0", "sleep_within 1 1 0 0 0", "sleep_within 0 -1 0 0", "sleep_within -1 0 0 0",
                "sleep_within 0 01 0 0", "sleep_within 00 0 0 0", "sleep_within 0  0 0 0", "sleep_within +1 0 0 0",
-               "Sleep_within 0 0 0 0", "sleep_Within 0 0 0 0", "sleepwithin 0 0 0 0", "sleep within 0 0 0 0", "sleep_within 0 0 0 0 ",
+               "Sleep_within 0 0 0 0", "sleep_Within 0 0 0 0", "sleepwithin 0 0 0 0", "read within 0 0 0 1", "sleep_within 0 0 0 0 ",
                f"sleep_within {LAST_MOMENT + 1} 0 0 0", f"sleep_within 0 {MOST_MS + 1} 0 0", f"sleep_within 0 0 0 {HANGUP}",
                f"sleep_within 0 0 0 {HANGUP + 1}", "wakeup_within 0 0 0 1", "note_within 0 0 0 alarm", "drain_within 0 0",
                "try_within 0 0 0", "release_within 0 0 0 1", "hangup_within 0 0 0", "acquire_within 0", "acquire_within",
