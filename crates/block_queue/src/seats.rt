@@ -35,7 +35,7 @@ impl PutSeat {
     }
 
     /// The stepper with which the seat makes its steps. A blank badge stands in for what it knows
-    /// until `sit`.
+    /// until `put_token`.
     pub(crate) fn take_token(&mut self) -> Stepper
         requires { self.old.badge.views ≡ put_view self.old ∷ [] }
         ensures table { result.table_id ≡ self.old.badge.table_id }
@@ -57,7 +57,7 @@ impl PutSeat {
 
 impl TakeSeat {
     /// The stepper with which the seat makes its steps. A blank badge stands in for what it knows
-    /// until `sit`.
+    /// until `put_token`.
     pub(crate) fn take_token(&mut self) -> Stepper
         requires { self.old.badge.views ≡ take_view self.old ∷ [] }
         ensures table { result.table_id ≡ self.old.badge.table_id }

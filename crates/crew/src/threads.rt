@@ -30,7 +30,7 @@ const _: () = prove!(LIMIT == 16);
 /// the end. It hangs the pipe up when all writers have returned, and reports what was read. It
 /// waits.
 ///
-/// Refuses, in this order, as `BadArg` outside the limits of `ThreadsOpts`, as `Memory`, and as
+/// Refuses first as `BadArg` outside the limits of `ThreadsOpts`, and else as `Memory`, or as
 /// `Device` where a thread can't be started; then all others have been joined.
 ///
 /// A read or a write that is refused for another reason than memory would be reported as `Device`

@@ -25,7 +25,7 @@ impl<O: Object> LockSeat<O> {
     }
 
     /// The stepper with which the seat makes its steps. A blank badge stands in for what it knows
-    /// until `sit`.
+    /// until `put_token`.
     pub(crate) fn take_token(&mut self) -> Stepper<O>
         requires { self.old.badge.views ≡ view_of self.old ∷ [] }
         ensures table { result.table_id ≡ self.old.badge.table_id }

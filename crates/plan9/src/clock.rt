@@ -112,10 +112,10 @@ impl<'t> Watch<'t> {
         })
     }
 
-    /// Says that it is now this moment: each timer whose deadline has come expires, and its process
-    /// is posted the note `expired`. Returns how many expired: at most as many as there are
-    /// processes. Own; tsemacquire in semacquire(2) has a clock of its own. It waits for the
-    /// timers' lock. Takes no memory.
+    /// Says that it is now this moment: timers whose deadline has come expire, and their processes
+    /// are posted the note `expired`, until none is due or as many have expired as there are
+    /// processes. Returns how many. Own; tsemacquire in semacquire(2) has a clock of its own. It
+    /// waits for the timers' lock. Takes no memory.
     pub fn tick<R: Wait>(&mut self, rt: &R, proc: &mut Proc<'_>, now: u64) -> u64
         ensures same { IsSameWatch self.old self.new }
         ensures words { proc.new.words ≡ proc.old.words }

@@ -31,8 +31,8 @@ fn keep(proc: &mut Proc<'_>, left: NoteSet)
 /// A `write` at this end that leaves no note where the direction is hung up, so that this note ends
 /// no later wait of the process. It waits, and takes memory, as `write` does.
 ///
-/// Refuses as `write` does. With `Hungup` it takes the note of a write on a closed pipe back, also
-/// a note that was pending before, since a process has at most one of a kind; other notes that were
+/// Refuses as `write` does. If hung up it takes the note of a write on a closed pipe back, also a
+/// note that was pending before, since a process has at most one of a kind; other notes that were
 /// pending are pending again. After write(2) and notify(2). Own: that a writer takes its note back.
 pub fn write_unnoted<R: Wait>(
     alloc: Global,

@@ -185,7 +185,7 @@ impl<'s, 'p, 'k> Sharer<'s, 'p, 'k> {
     ///
     /// Refuses, in this order, as `Holder::acquire` does where it waits for its turn, and then as
     /// `Reader::read` does. With any answer the end lies there again, and the turn is given back.
-    /// So notes end either wait, as `Interrupted`. After qlock in lock(2), and read(2).
+    /// So notes end either wait. After qlock in lock(2), and read(2).
     pub fn read<R: Wait>(&mut self, rt: &R, buffer: &mut [u8]) -> Result<ReadAnswer, Fault>
         ensures same { IsSameSharer self.old self.new }
         ensures turn { InTurn ReadsOnce self.old (buffers buffer.old buffer.new) result self.new }

@@ -25,7 +25,8 @@ pub struct GroupNote<'t> {
 }
 
 /// The notes that the first line of a text asks for, and what follows that line; nothing where the
-/// text has no whole line, or that line is no line `notepg` or too long.
+/// text has no whole line, or that line is no line `notepg`. A line that is too long may be
+/// answered either way.
 #[inline(always)]
 pub fn group_at(text: &[u8]) -> Option<(GroupNote<'_>, &[u8])>
     ensures { MatchOption result (NoLineAsks group_of text.now)

@@ -64,8 +64,8 @@ fn mode_of_rest(rest: Option<&[u8]>) -> Option<Mode>
 }
 
 /// What the first line of a text asks for, and what follows that line, in one pass; nothing where
-/// the text has no whole line, or that line is not in the grammar or too long. Bytes are put into
-/// this room.
+/// the text has no whole line, or that line is not in the grammar. A line that is too long may be
+/// answered either way. Bytes are put into this room.
 pub fn op_at<'a, 't>(
     text: &'t [u8],
     room: &'a mut Vec<u8>,

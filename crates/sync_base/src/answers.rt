@@ -15,21 +15,21 @@ pub enum WriteAnswer {
 /// The answer to a read.
 #[derive(Debug, Drop)]
 pub enum ReadAnswer {
-    /// The next bytes of one write. An empty write gives an empty piece.
+    /// The next bytes: in message mode of one write, where an empty write gives an empty piece.
     Got(Piece),
-    /// All that was accepted is read.
+    /// Nothing is left to be read.
     Empty,
-    /// All that was accepted is read, and the direction is hung up, so no more will come.
+    /// Nothing is left to be read, and the direction is hung up, so no more will come.
     End,
 }
 
 /// The answer to a read whose bytes are lent, not given.
 #[derive(Clone, Copy)]
 pub enum PeekAnswer<'a> {
-    /// The next bytes of one write. An empty write lends none.
+    /// The next bytes: in message mode of one write, where an empty write lends none.
     Got(&'a [u8]),
-    /// All that was accepted is read.
+    /// Nothing is left to be read.
     Empty,
-    /// All that was accepted is read, and the direction is hung up, so no more will come.
+    /// Nothing is left to be read, and the direction is hung up, so no more will come.
     End,
 }

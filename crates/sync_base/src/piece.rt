@@ -3,7 +3,7 @@ ghost use Rattle.std.specs.Prelude.{◌≡◌, ℕ, List};
 
 use std::marker::Model;
 
-/// Bytes of one write, in order.
+/// The bytes of one read, in order.
 #[derive(Debug, Drop)]
 pub struct Piece {
     bytes: Vec<u8>,

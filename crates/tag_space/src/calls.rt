@@ -38,7 +38,7 @@ pub enum GroupReply {
     Met { value: u64, member: u64, count: u64 },
     /// The waiting call was found by a call that gives this value.
     WasMet { value: u64 },
-    /// The member waits. So far its waiting calls were met this many times.
+    /// The member waits, or has no call. So far its waiting calls were met this many times.
     Wait { count: u64 },
     /// The call would wait, and no more meetings of this member can be counted.
     Worn,

@@ -15,10 +15,10 @@ use std::sync::Wait;
 use sync_base::{Note, NoteSet, Pid};
 
 impl Timers {
-    /// Says that it is now this moment: each timer whose deadline has come expires, and its process
-    /// is posted the note `expired`. Returns how many expired: at most as many as there are
-    /// processes. Own; tsemacquire in semacquire(2) has a clock of its own. It waits for the
-    /// timers' lock. Takes no memory.
+    /// Says that it is now this moment: timers whose deadline has come expire, and their processes
+    /// are posted the note `expired`, until none is due or as many have expired as there are
+    /// processes. Returns how many. Own; tsemacquire in semacquire(2) has a clock of its own. It
+    /// waits for the timers' lock. Takes no memory.
     pub fn tick<R: Wait>(&self, rt: &R, proc: &mut Proc<'_>, timer: &mut TimerSeat, now: u64) -> u64
         requires { IsTimerSeatOf self.now timer.old }
         ensures seat { IsTimerSeatOf self.now timer.new }

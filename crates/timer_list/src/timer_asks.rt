@@ -10,8 +10,8 @@ use std::sync::Wait;
 use sync_base::Pid;
 
 impl Timers {
-    /// Sets the seat's timer: the first tick at this moment or later posts the note `expired` to
-    /// this process. The last timer of the seat was cancelled, so it is never refused.
+    /// Sets the seat's timer: only a tick at this moment or later expires it, and posts the note
+    /// `expired` to this process. The last timer of the seat was cancelled, so it is never refused.
     /// It waits for the timers' lock. Takes no memory.
     pub fn add<R: Wait>(&self, rt: &R, seat: &mut TimerSeat, pid: Pid, deadline: u64)
         requires { IsTimerSeatOf self.now seat.old }

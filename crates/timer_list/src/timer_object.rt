@@ -15,7 +15,7 @@ use sync_base::{Fault, Pid};
 pub enum Timer {
     /// The seat has no timer, or its last timer was cancelled.
     Unset,
-    /// It expires at the first tick from the deadline on: then the note is posted to the process.
+    /// Only a tick from the deadline on expires it: then the note is posted to the process.
     Set { pid: Pid, deadline: u64 },
     /// It expired, and was not cancelled since.
     Expired,
