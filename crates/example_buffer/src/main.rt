@@ -1,5 +1,6 @@
-//! A bounded buffer: a producer fills four places, and a consumer empties them, until ten ticks
-//! pass with no item. One semaphore counts the free places, another the items.
+//! A bounded buffer: a producer fills four places, and a consumer empties them, until no item is
+//! left ten milliseconds after the producer is done. One semaphore counts the free places, another
+//! the items.
 #![tactic(auto)]
 
 use plan9::{
@@ -33,7 +34,7 @@ fn fill<R: Wait>(rt: &R, side: &mut Side<'_, '_>, places: &Places) -> Result<(),
     Ok(())
 }
 
-/// Takes items out, until none comes within ten ticks, and returns their sum.
+/// Takes items out, until none is there at a tick of the moment 10 or later, and returns their sum.
 fn empty<R: Wait>(rt: &R, side: &mut Side<'_, '_>, places: &Places) -> Result<u64, Fault> {
     let mut sum = 0u64;
     for item in 1..=u64::MAX {

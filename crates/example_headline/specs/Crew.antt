@@ -51,8 +51,8 @@ pub record HasSeenEnd (read : ReadSide) : Type 0 where
   pub newest : read.account.seen ≡ End ∷ past
   pub rest : read.rest ≡ None
 
--- the reader keeps just what its end has read, is of the kernel that has the Rendez of the pipe,
--- and has made the wakeups that its calls owe
+-- the reader keeps just what its end has read, is of a kernel that has Rendez with the numbers of
+-- the pipe's, and has made the wakeups that its calls owe
 pub record KeepsAll (reader : Reader) : Type 0 where
   pub got : HasGot reader.end reader.got.items
   pub kernel : OwnsRow reader.proc.words reader.end.row
@@ -97,8 +97,9 @@ pub record HasStopped (reader : Reader) : Type 0 where
 abbrev pub StopsFrom : Reader → Reader → Type 0
 StopsFrom start reader = IsClearReader start → HasStopped reader
 
--- the writer counts just what its end has written, the first `accepted` of its messages; it is of
--- the kernel that has the Rendez of the pipe, and has made the wakeups that its calls owe
+-- the writer counts just what its end has written, the first `accepted` of its messages; it is of a
+-- kernel that has Rendez with the numbers of the pipe's, and has made the wakeups that its calls
+-- owe
 pub record CountsAll (writer : Writer) : Type 0 where
   pub just : HasWrittenJust writer.end (take writer.accepted writer.messages.items)
   pub within : writer.accepted ≤ length writer.messages.items

@@ -53,7 +53,7 @@ module _ {Object Call Reply : Type 0} where
     pub slots_are : me.1 ≡ (0, Some guarded) ∷ []
     pub next_is : guarded.next ≡ me.0.given
 
-  -- the object in the slot was taken out and put back as it was, with a next number beside it
+  -- the object in the slot is as it was, and beside it lies the next number
   pub record KeepsObject (before after : Me Object Call Reply) : Type 0 where
     pub found : Guarded Object
     pub left : Guarded Object

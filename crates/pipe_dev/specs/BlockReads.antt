@@ -40,8 +40,8 @@ AsksForBlock key row old (reply.Wait number) new =
     × IsFreshTake key old.seat.taker.account new.seat.taker.account (take_answer.NotYet number)
 AsksForBlock key row old (reply.Refused why) new = ⊥
 
--- What such a read did, by its answer, in either mode. Own: a read by a process of another kernel
--- does nothing.
+-- What such a read did, by its answer, in either mode. Own: a read by a process whose kernel lacks
+-- Rendez of the direction does nothing.
 abbrev pub ReadsBlock : Key → Row → Calling → Result ReadAnswer Fault → Calling → Type 0
 ReadsBlock key row old (Err fault.NoRendez) new = new ≡ old
 ReadsBlock key row old answer new =

@@ -94,7 +94,7 @@ abbrev pub reading : Key → Row → Promise Lending ReadAnswer
 reading key row = waits_by (AsksForBytes key row)
 
 -- What a read did, by its answer. Own: a read into a buffer of no bytes is refused first, and then
--- a read by a process of another kernel; they do nothing.
+-- a read by a process whose kernel lacks Rendez of the direction; they do nothing.
 abbrev pub Reads : Key → Row → Calling → Result ReadAnswer Fault → Calling → Type 0
 Reads key row old (Err fault.BadCount) new = new ≡ old
 Reads key row old (Err fault.NoRendez) new = new ≡ old

@@ -42,7 +42,7 @@ pub record WakesAll (row : Row) (before after : Process) : Type 0 where
   pub reader : WakesOne before (reader_rendez row) TOP_LEVEL between
   pub writers : WakesWriters row row.writers TOP_LEVEL between after
 
--- Own: a process of another kernel, which does not own all these Rendez, wakes nobody.
+-- Own: a process whose kernel has too few Rendez for these wakes nobody.
 pub record WakesIfKnown (row : Row) (before : Running) (after : Process) : Type 0 where
   pub known : OwnsRow before.words row → WakesAll row before.process after
   pub foreign : ¬ OwnsRow before.words row → after ≡ before.process

@@ -93,8 +93,8 @@ abbrev pub writing : WriteCall → Promise (Account Entry) ℕ
 writing call = waits_by (AsksForRoom call)
 
 -- What a write did, by its answer. Own: a write above the atomic size is refused first, and then a
--- write by a process of another kernel. These two, and a write for whose block there is no memory,
--- do nothing.
+-- write by a process whose kernel lacks Rendez of the direction. These two, and a write for whose
+-- block there is no memory, do nothing.
 abbrev pub Writes : WriteCall → Writer → Result ℕ Fault → Writer → Type 0
 Writes call old (Err fault.TooBig) new = new ≡ old
 Writes call old (Err fault.NoRendez) new = new ≡ old
@@ -115,8 +115,8 @@ pub record IsRefusedAs {Out At : Type 0} (why : Fault) (old : At) (answer : Resu
   pub answer_is : answer ≡ Err why
   pub same : new ≡ old
 
--- what a write did that is neither too big nor by a process of another kernel: there was no memory
--- for its block, or its runner ran it with this result
+-- what a write did that was not refused so: there was no memory for its block, or its runner ran it
+-- with this result
 abbrev pub WritesBy : {Timer : Type 0} → Runs Timer → WriteCall → RunPoint Timer (Account Entry)
     → Result ℕ Fault → RunPoint Timer (Account Entry) → Type 0
 WritesBy runs call old answer new =

@@ -37,17 +37,17 @@ impl<'p> ReadEnd<'p> {
     /// Takes no memory.
     ///
     /// `End` where the direction is hung up and all is read. Refuses, in this order, as `NoRendez`
-    /// where the kernel of the process does not own all the Rendez of the direction, and where it
-    /// would wait as `DoubleSleep` and `Interrupted`. At the end, and where it is refused, the
-    /// block is as it was. A read that took a write out wakes each writer with its number. After
-    /// pipe(3) and bread of the kernel's devices.
+    /// where the kernel of the process has too few Rendez for the direction, and where it would
+    /// wait as `DoubleSleep` and `Interrupted`. At the end, and where it is refused, the block is
+    /// as it was. A read that took a write out wakes each writer with its number. After pipe(3) and
+    /// bread of the kernel's devices.
     pub fn read_block<R: Wait>(
         &mut self,
         rt: &R,
         proc: &mut Proc<'_>,
         block: &mut Vec<u8>,
     ) -> Result<ReadAnswer, Fault>
-        // A process of a kernel that does not own all the Rendez of the direction is refused.
+        // A process of a kernel that has too few Rendez for the direction is refused.
         ensures no_rendez { IsErrOf result NoRendez ↔ ¬ OwnsRow proc.old.words self.old.row }
 
         // It read, slept and woke so, or did nothing.

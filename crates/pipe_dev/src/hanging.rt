@@ -13,9 +13,9 @@ impl<'p> ReadEnd<'p> {
     ghost use Rattle.pipe_dev.specs.Rendezes.{WakesIfKnown};
 
     /// Hangs its direction up, for all writers and for good, and wakes both sides. What was
-    /// accepted stays readable. A second hangup wakes again. A process whose kernel does not own
-    /// all the Rendez of the direction hangs it up and wakes nobody. Takes no memory and doesn't
-    /// wait. After pipe(2).
+    /// accepted stays readable. A second hangup wakes again. A process whose kernel has too few
+    /// Rendez for the direction hangs it up and wakes nobody. Takes no memory and doesn't wait.
+    /// After pipe(2).
     #[tactic(auto, using(crate::proofs::WrittenLemmas::sees_hang))]
     pub fn hangup(&mut self, proc: &mut Proc<'_>)
         ensures hung { Enters (key_of self.old.queue) (Hung 0) self.old.account self.new.account }
@@ -38,9 +38,9 @@ impl<'p> WriteEnd<'p> {
     ghost use Rattle.pipe_dev.specs.Rendezes.{WakesIfKnown};
 
     /// Hangs its direction up, for all writers and for good, and wakes both sides. What was
-    /// accepted stays readable. A second hangup wakes again. A process whose kernel does not own
-    /// all the Rendez of the direction hangs it up and wakes nobody. Takes no memory and doesn't
-    /// wait. After pipe(2).
+    /// accepted stays readable. A second hangup wakes again. A process whose kernel has too few
+    /// Rendez for the direction hangs it up and wakes nobody. Takes no memory and doesn't wait.
+    /// After pipe(2).
     #[tactic(auto, using(crate::proofs::WrittenLemmas::sees_hang))]
     pub fn hangup(&mut self, proc: &mut Proc<'_>)
         ensures hung { Enters (key_of self.old.queue) (Hung (self.old.writer + 1))

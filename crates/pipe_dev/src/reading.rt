@@ -36,18 +36,18 @@ impl<'p> ReadEnd<'p> {
     /// passes the empty ones. Where nothing is there yet it waits. Takes no memory.
     ///
     /// `End` where the direction is hung up and all is read. Refuses, in this order, as `BadCount`
-    /// for a buffer of no bytes, as `NoRendez` where the kernel of the process does not own all the
-    /// Rendez of the direction, and where it would wait as `DoubleSleep` and `Interrupted`. A read
-    /// that took a write out wakes each writer with the number of that write, in stream mode of the
-    /// last one. After pipe(3) and read(2).
+    /// for a buffer of no bytes, as `NoRendez` where the kernel of the process has too few Rendez
+    /// for the direction, and where it would wait as `DoubleSleep` and `Interrupted`. A read that
+    /// took a write out wakes each writer with the number of that write, in stream mode of the last
+    /// one. After pipe(3) and read(2).
     pub fn read<R: Wait>(
         &mut self,
         rt: &R,
         proc: &mut Proc<'_>,
         buffer: &mut [u8],
     ) -> Result<ReadAnswer, Fault>
-        // A buffer of no bytes is refused first, and then a process of a kernel that does not own
-        // all the Rendez of the direction.
+        // A buffer of no bytes is refused first, and then a process of a kernel that has too few
+        // Rendez for the direction.
         ensures bad_count { IsErrOf result BadCount ↔ (buffer.old ≡ []) }
         ensures no_rendez { buffer.old ≢ []
             → (IsErrOf result NoRendez ↔ ¬ OwnsRow proc.old.words self.old.row) }
@@ -77,8 +77,8 @@ impl<'p> ReadEnd<'p> {
     ) -> Result<ReadAnswer, Fault>
         requires timer { W.rests runner.now timer.old }
 
-        // A buffer of no bytes is refused first, and then a process of a kernel that does not own
-        // all the Rendez of the direction.
+        // A buffer of no bytes is refused first, and then a process of a kernel that has too few
+        // Rendez for the direction.
         ensures bad_count { buffer.old ≡ [] → IsRefusedAs BadCount
             (run_call (calling self.old proc.old buffer.old) timer.old) result
             (run_call (calling self.new proc.new buffer.new) timer.new) }
@@ -116,10 +116,10 @@ impl<'p> ReadEnd<'p> {
     /// A `read` that does not wait: `NotYet` where nothing is there yet. Takes no memory.
     ///
     /// Refuses, in this order, as `BadCount` for a buffer of no bytes and as `NoRendez` where the
-    /// kernel of the process does not own all the Rendez of the direction.
+    /// kernel of the process has too few Rendez for the direction.
     pub fn try_read(&mut self, proc: &mut Proc<'_>, buffer: &mut [u8]) -> Result<TryAnswer, Fault>
-        // A buffer of no bytes is refused first, and then a process of a kernel that does not own
-        // all the Rendez of the direction; nothing is done then.
+        // A buffer of no bytes is refused first, and then a process of a kernel that has too few
+        // Rendez for the direction; nothing is done then.
         ensures bad_count { IsErrOf result BadCount ↔ (buffer.old ≡ []) }
         ensures no_rendez { buffer.old ≢ []
             → (IsErrOf result NoRendez ↔ ¬ OwnsRow proc.old.words self.old.row) }

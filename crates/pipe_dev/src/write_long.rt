@@ -24,7 +24,7 @@ impl<'p> WriteEnd<'p> {
         bytes: &[u8],
     ) -> Long
         // None of its writes is above the atomic size, and it is refused as `NoRendez` just where
-        // the process is of a kernel that does not own all the Rendez of the direction.
+        // the process is of a kernel that has too few Rendez for the direction.
         ensures too_big { result.fault ≢ Some TooBig }
         ensures no_rendez { (result.fault ≡ Some NoRendez)
             ↔ ¬ OwnsRow proc.old.words self.old.row }

@@ -32,7 +32,7 @@ impl<'p> WriteEnd<'p> {
     /// number. Where there is no room it waits. Memory is taken for the bytes.
     ///
     /// Refuses, in this order, as `TooBig` above the atomic size, as `NoRendez` where the kernel of
-    /// the process does not own all the Rendez of the direction, as `Memory`, as `Hungup` where the
+    /// the process has too few Rendez for the direction, as `Memory`, as `Hungup` where the
     /// direction is hung up, with the note of a write on a closed pipe posted to the process, as
     /// `Worn` where the last number was given, and where it would wait as `DoubleSleep` and
     /// `Interrupted`. A write that was accepted wakes the reader with its number. After pipe(3) and
@@ -44,8 +44,8 @@ impl<'p> WriteEnd<'p> {
         proc: &mut Proc<'_>,
         bytes: &[u8],
     ) -> Result<u64, Fault>
-        // A write above the atomic size is refused first, and then a process of a kernel that does
-        // not own all the Rendez of the direction.
+        // A write above the atomic size is refused first, and then a process of a kernel that has
+        // too few Rendez for the direction.
         ensures too_big { IsErrOf result TooBig ↔ (ATOMIC_SIZE < length bytes.now) }
         ensures no_rendez { length bytes.now ≤ ATOMIC_SIZE
             → (IsErrOf result NoRendez ↔ ¬ OwnsRow proc.old.words self.old.row) }
@@ -75,8 +75,8 @@ impl<'p> WriteEnd<'p> {
     ) -> Result<u64, Fault>
         requires timer { W.rests runner.now timer.old }
 
-        // A write above the atomic size is refused first, and then a process of a kernel that does
-        // not own all the Rendez of the direction.
+        // A write above the atomic size is refused first, and then a process of a kernel that has
+        // too few Rendez for the direction.
         ensures too_big { ATOMIC_SIZE < length bytes.now
             → IsRefusedAs TooBig (run_writer self.old timer.old proc.old) result
             (run_writer self.new timer.new proc.new) }

@@ -28,11 +28,11 @@ guest_fork unused guest flags = record { unused = unused; guest = guest; flags =
 abbrev pub in_space : GuestFork → Rfork
 in_space call = rfork_of call.unused call.guest.space call.flags
 
--- the roster's kernel owns all the Rendez of the hall
+-- the roster's kernel has the number of each Rendez of the hall
 abbrev pub KnowsHall : GuestFork → Type 0
 KnowsHall call = OwnsRow call.guest.space call.unused.words
 
--- the roster is of another kernel, and then the guest's tag space is not called
+-- the roster's kernel has too few Rendez for the hall, and then the guest's tag space is not called
 pub record RefusesStranger (call : GuestFork) (after : Visiting) (why : Fault) : Type 0 where
   pub strange : ¬ KnowsHall call
   pub why_is : why ≡ fault.NoRendez

@@ -43,8 +43,8 @@ IsNewHall roster procs hall =
     (member : Member) × IsNewSpace roster procs hall.space × IsFirstMember hall.space member
     × (hall.spare ≡ Some member)
 
--- why a process can't be the first: its kernel does not own all the Rendez of the hall, or another
--- process was the first
+-- why a process can't be the first: its kernel has too few Rendez for the hall, or another process
+-- was the first
 abbrev pub WhyNotFirstGuest : Hosting → Running → Fault → Type 0
 WhyNotFirstGuest hall running fault.NoRendez = ¬ OwnsRow hall.space running.words
 WhyNotFirstGuest hall running fault.NoProc = OwnsRow hall.space running.words × (hall.spare ≡ None)
@@ -92,8 +92,8 @@ pub record IsFurtherGuest (old new : Visiting) (running : Running) (child : Visi
   pub running_is : child.running ≡ running
   pub further : IsFurtherMember old.space old.member new.member child.member
 
--- why a process can't be a guest as well: its kernel does not own all the Rendez of the hall, or
--- the space has had all its members
+-- why a process can't be a guest as well: its kernel has too few Rendez for the hall, or the space
+-- has had all its members
 abbrev pub WhyNoGuest : Visiting → Visiting → Running → Fault → Type 0
 WhyNoGuest old new running fault.NoRendez = (¬ OwnsRow old.space running.words) × (new ≡ old)
 WhyNoGuest old new running fault.NoProc =

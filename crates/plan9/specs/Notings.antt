@@ -56,7 +56,7 @@ LeavesNoNote old bytes (Err fault.Hungup) new = TakesItsNoteBack old bytes new
 LeavesNoNote old bytes answer new = WritesOnce old bytes answer new
 
 -- What a write did that leaves no note. A write above the atomic size is refused first, and then a
--- write by a process of a kernel that does not own all the Rendez of the direction.
+-- write by a process of a kernel that has too few Rendez for the direction.
 pub record WritesUnnoted (old : Writer) (bytes : List ℕ) (answer : Result ℕ Fault)
     (new : Writer) : Type 0 where
   pub too_big : IsErrOf answer fault.TooBig ↔ (ATOMIC_SIZE < length bytes)

@@ -71,8 +71,8 @@ got (Err fault) = Err fault
 abbrev pub got_now : Bool → Result Semacquired Fault
 got_now now = Ok (if now then sema.Acquired else sema.NotNow)
 
--- why a process can't be the first to hold: its kernel does not own all the Rendez of the pool, or
--- somebody was the first
+-- why a process can't be the first to hold: its kernel has too few Rendez for the pool, or somebody
+-- was the first
 abbrev pub WhyNotFirst : Pooled → Running → Fault → Type 0
 WhyNotFirst pool running fault.NoRendez = ¬ OwnsRow pool.sema running.words
 WhyNotFirst pool running fault.NoProc = OwnsRow pool.sema running.words × (pool.spare ≡ None)
@@ -120,8 +120,8 @@ pub record IsFurtherHolder (old new : Holding) (running : Running) (child : Hold
 abbrev pub KnowsNoSeat : Holding → Holding → Type 0
 KnowsNoSeat old new = KnowsAllGiven old.sema.lock old.seat.seat new.seat.seat
 
--- why a process can't hold as well: its kernel does not own all the Rendez of the pool, or all
--- seats were given
+-- why a process can't hold as well: its kernel has too few Rendez for the pool, or all seats were
+-- given
 abbrev pub WhyNotJoined : Holding → Holding → Running → Fault → Type 0
 WhyNotJoined old new running fault.NoRendez =
     (¬ OwnsRow old.sema running.words) × (new ≡ old)
@@ -154,8 +154,8 @@ pub record Forking : Type 0 where
 abbrev pub forking : Unused → Holding → Forking
 forking roster parent = record { roster = roster; parent = parent }
 
--- the next process of a roster was made, and a seat was given that it can't have: its kernel does
--- not own all the Rendez of the pool
+-- the next process of a roster was made, and a seat was given that it can't have: its kernel has
+-- too few Rendez for the pool
 pub record IsUnseated (old new : Forking) (unseated : Unseated) : Type 0 where
   pub pid : HasPid old.roster
   pub no_row : ¬ OwnsRow old.parent.sema old.roster.words
@@ -164,7 +164,8 @@ pub record IsUnseated (old new : Forking) (unseated : Unseated) : Type 0 where
   pub roster : new.roster ≡ one_pid_less old.parent.running.process.pid false old.roster
 
 -- Why there is no new holder: no pid is left, or all seats were given, and then no pid is used up;
--- or the roster is of another kernel, and then the child and its seat come back.
+-- or the roster's kernel has too few Rendez for the pool, and then the child and its seat come
+-- back.
 abbrev pub WhyNoFork : Forking → Forking → Option Unseated → Fault → Type 0
 WhyNoFork old new None fault.NoProc =
     (new.roster ≡ old.roster)

@@ -38,7 +38,7 @@ LiesIn buffer (Ok (Some count)) = count ≤ length buffer
 LiesIn buffer other = ⊤
 
 -- One read, with this answer. A buffer of no bytes is refused first, and then a process of a kernel
--- that does not own all the Rendez of the direction.
+-- that has too few Rendez for the direction.
 pub record ReadsPiece (old : Reader) (buffer : List ℕ) (answer : Result (Option ℕ) Fault)
     (new : Reader) (buffer' : List ℕ) : Type 0 where
   pub bad_count : IsErrOf answer BadCount ↔ (buffer ≡ [])

@@ -117,7 +117,7 @@ buffers before after = record { before = before; after = after }
 abbrev pub reader : ReadSide → Running → Reader
 reader end proc = record { end = end; proc = proc }
 
--- one call of an end of this direction: of the end that lay there, which lies there again
+-- one call of an end of this direction, as the end was before the call and after it
 pub record CallsShared (end : ReadSide) (old : Holding) (Call : Reader → Reader → Type 0)
     (new : Holding) : Type 0 where
   pub lay : ReadSide
@@ -128,14 +128,14 @@ pub record CallsShared (end : ReadSide) (old : Holding) (Call : Reader → Reade
   pub same : IsSameHolder old new
   pub seat_is : new.seat ≡ old.seat
 
--- and the end that lies there after the call is the one that was laid down
+-- and the end as it was after the call was laid down
 pub record CallsAndLays (end : ReadSide) (old : Holding) (Call : Reader → Reader → Type 0)
     (laid : Receipt) (new : Holding) : Type 0 where
   pub calls : CallsShared end old Call new
   pub laid_is : IsLaid calls.lies laid
 
 -- A read, with this answer. A buffer of no bytes is refused first, and then a process of a kernel
--- that does not own all the Rendez of the direction.
+-- that has too few Rendez for the direction.
 pub record ReadsOnce (buffer : Buffers) (answer : Result ReadAnswer Fault) (old new : Reader) :
     Type 0 where
   pub bad_count : IsErrOf answer BadCount ↔ (buffer.before ≡ [])

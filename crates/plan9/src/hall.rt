@@ -150,9 +150,9 @@ impl Hall {
         Ok(hall_of(space, member, self.procs))
     }
 
-    /// The first guest. Refuses, in this order, as `NoRendez` a process whose kernel does not own
-    /// all the Rendez of the hall, and as `NoProc` where another process was the first before; the
-    /// process comes back. Takes no memory and doesn't wait.
+    /// The first guest. Refuses, in this order, as `NoRendez` a process whose kernel has too few
+    /// Rendez for the hall, and as `NoProc` where another process was the first before; the process
+    /// comes back. Takes no memory and doesn't wait.
     pub fn first<'s, 'k>(&'s mut self, proc: Proc<'k>) -> Result<Guest<'s, 'k>, Refused<'k>>
         ensures fault { IfErr result
             (ComesBack (WhyNotFirstGuest self.old proc.entry) proc.entry) }
@@ -271,9 +271,9 @@ impl<'s, 'k> Guest<'s, 'k> {
     /// Refuses, in this order, as `Worn` and `DoubleSleep` as `rendezvous` does, `Interrupted` with
     /// the notes that ended the wait, and `TimedOut` where a tick ended it and no other note came;
     /// a refused call is in no exchange, and nobody meets it later. With any other answer, other
-    /// notes that came are pending again. Where a tick has taken its timer, it waits for that
-    /// tick's note before it answers, so that no late expiry reaches a later sleep. Takes no
-    /// memory.
+    /// notes that came are pending again. Where a tick has taken its timer, it takes a note
+    /// `expired` before it answers: so no late expiry reaches a later sleep, unless others post
+    /// that note. Takes no memory.
     pub fn rendezvous_within<R: Wait>(
         &mut self,
         rt: &R,
@@ -352,8 +352,8 @@ impl<'s, 'k> Guest<'s, 'k> {
     }
 
     /// Another process that is a guest as well. Refuses, in this order, as `NoRendez` a process
-    /// whose kernel does not own all the Rendez of the hall, and as `NoProc` where the space has
-    /// had all its members; the process comes back. It waits for the space's lock. Takes no memory.
+    /// whose kernel has too few Rendez for the hall, and as `NoProc` where the space has had all
+    /// its members; the process comes back. It waits for the space's lock. Takes no memory.
     pub fn join<R: Wait>(&mut self, rt: &R, proc: Proc<'k>) -> Result<Guest<'s, 'k>, Refused<'k>>
         ensures same { IsSameGuest self.old self.new }
         ensures fault { IfErr result

@@ -54,13 +54,13 @@ impl<'p, 'k> Reader<'p, 'k> {
     /// passes the empty ones. Where nothing is there yet it waits. Takes no memory.
     ///
     /// `End` where the direction is hung up and all is read. Refuses, in this order, as `BadCount`
-    /// for a buffer of no bytes, as `NoRendez` where the kernel of the process does not own all the
-    /// Rendez of the direction, and where it would wait as `DoubleSleep` and `Interrupted`. A read
-    /// that took a write out wakes each writer with the number of that write, in stream mode of the
-    /// last one. After pipe(3) and read(2).
+    /// for a buffer of no bytes, as `NoRendez` where the kernel of the process has too few Rendez
+    /// for the direction, and where it would wait as `DoubleSleep` and `Interrupted`. A read that
+    /// took a write out wakes each writer with the number of that write, in stream mode of the last
+    /// one. After pipe(3) and read(2).
     pub fn read<R: Wait>(&mut self, rt: &R, buffer: &mut [u8]) -> Result<ReadAnswer, Fault>
-        // A buffer of no bytes is refused first, and then a process of a kernel that does not own
-        // all the Rendez of the direction.
+        // A buffer of no bytes is refused first, and then a process of a kernel that has too few
+        // Rendez for the direction.
         ensures bad_count { IsErrOf result BadCount ↔ (buffer.old ≡ []) }
         ensures no_rendez { buffer.old ≢ []
             → (IsErrOf result NoRendez ↔ ¬ OwnsRow self.old.proc.words self.old.end.row) }
@@ -81,8 +81,9 @@ impl<'p, 'k> Reader<'p, 'k> {
     /// Refuses, in this order, as `BadCount`, `NoRendez` and `DoubleSleep` as `read` does, as
     /// `Interrupted` with the notes that ended the wait, and as `TimedOut` where a tick ended it
     /// and no other note came; a refused read got nothing. With any other answer, other notes that
-    /// came are pending again. Where a tick has taken its timer, it waits for that tick's note
-    /// before it answers, so that no late expiry reaches a later sleep. Takes no memory.
+    /// came are pending again. Where a tick has taken its timer, it takes a note `expired` before
+    /// it answers: so no late expiry reaches a later sleep, unless others post that note. Takes no
+    /// memory.
     pub fn read_within<R: Wait>(
         &mut self,
         rt: &R,
@@ -91,8 +92,8 @@ impl<'p, 'k> Reader<'p, 'k> {
         ms: u32,
         buffer: &mut [u8],
     ) -> Result<ReadAnswer, Fault>
-        // A buffer of no bytes is refused first, and then a process of a kernel that does not own
-        // all the Rendez of the direction.
+        // A buffer of no bytes is refused first, and then a process of a kernel that has too few
+        // Rendez for the direction.
         ensures bad_count { buffer.old ≡ [] → IsRefusedAs BadCount
             (watched_read self.old watch.old buffer.old) result
             (watched_read self.new watch.new buffer.new) }
@@ -128,10 +129,10 @@ impl<'p, 'k> Reader<'p, 'k> {
     /// A `read` that does not wait: `NotYet` where nothing is there yet. Takes no memory.
     ///
     /// Refuses, in this order, as `BadCount` for a buffer of no bytes and as `NoRendez` where the
-    /// kernel of the process does not own all the Rendez of the direction.
+    /// kernel of the process has too few Rendez for the direction.
     pub fn try_read(&mut self, buffer: &mut [u8]) -> Result<TryAnswer, Fault>
-        // A buffer of no bytes is refused first, and then a process of a kernel that does not own
-        // all the Rendez of the direction; nothing is done then.
+        // A buffer of no bytes is refused first, and then a process of a kernel that has too few
+        // Rendez for the direction; nothing is done then.
         ensures bad_count { IsErrOf result BadCount ↔ (buffer.old ≡ []) }
         ensures no_rendez { buffer.old ≢ []
             → (IsErrOf result NoRendez ↔ ¬ OwnsRow self.old.proc.words self.old.end.row) }
@@ -157,12 +158,12 @@ impl<'p, 'k> Reader<'p, 'k> {
     /// Takes no memory.
     ///
     /// `End` where the direction is hung up and all is read. Refuses, in this order, as `NoRendez`
-    /// where the kernel of the process does not own all the Rendez of the direction, and where it
-    /// would wait as `DoubleSleep` and `Interrupted`. At the end, and where it is refused, the
-    /// block is as it was. A read that took a write out wakes each writer with its number. After
-    /// pipe(3) and bread of the kernel's devices.
+    /// where the kernel of the process has too few Rendez for the direction, and where it would
+    /// wait as `DoubleSleep` and `Interrupted`. At the end, and where it is refused, the block is
+    /// as it was. A read that took a write out wakes each writer with its number. After pipe(3) and
+    /// bread of the kernel's devices.
     pub fn read_block<R: Wait>(&mut self, rt: &R, block: &mut Vec<u8>) -> Result<ReadAnswer, Fault>
-        // A process of a kernel that does not own all the Rendez of the direction is refused.
+        // A process of a kernel that has too few Rendez for the direction is refused.
         ensures no_rendez { IsErrOf result NoRendez
             ↔ ¬ OwnsRow self.old.proc.words self.old.end.row }
 
@@ -177,9 +178,9 @@ impl<'p, 'k> Reader<'p, 'k> {
     }
 
     /// Hangs its direction up, for all writers and for good, and wakes both sides. What was
-    /// accepted stays readable. A second hangup wakes again. A process whose kernel does not own
-    /// all the Rendez of the direction hangs it up and wakes nobody. Takes no memory and doesn't
-    /// wait. After pipe(2).
+    /// accepted stays readable. A second hangup wakes again. A process whose kernel has too few
+    /// Rendez for the direction hangs it up and wakes nobody. Takes no memory and doesn't wait.
+    /// After pipe(2).
     pub fn hangup(&mut self)
         ensures hung { Enters (key_of self.old.end.queue) (Hung 0)
             self.old.end.account self.new.end.account }
@@ -219,14 +220,14 @@ impl<'p, 'k> Writer<'p, 'k> {
     /// number. Where there is no room it waits. Memory is taken for the bytes.
     ///
     /// Refuses, in this order, as `TooBig` above the atomic size, as `NoRendez` where the kernel of
-    /// the process does not own all the Rendez of the direction, as `Memory`, as `Hungup` where the
+    /// the process has too few Rendez for the direction, as `Memory`, as `Hungup` where the
     /// direction is hung up, with the note of a write on a closed pipe posted to the process, as
     /// `Worn` where the last number was given, and where it would wait as `DoubleSleep` and
     /// `Interrupted`. A write that was accepted wakes the reader with its number. After pipe(3) and
     /// write(2).
     pub fn write<R: Wait>(&mut self, alloc: Global, rt: &R, bytes: &[u8]) -> Result<u64, Fault>
-        // A write above the atomic size is refused first, and then a process of a kernel that does
-        // not own all the Rendez of the direction.
+        // A write above the atomic size is refused first, and then a process of a kernel that has
+        // too few Rendez for the direction.
         ensures too_big { IsErrOf result TooBig ↔ (ATOMIC_SIZE < length bytes.now) }
         ensures no_rendez { length bytes.now ≤ ATOMIC_SIZE
             → (IsErrOf result NoRendez ↔ ¬ OwnsRow self.old.proc.words self.old.end.row) }
@@ -267,8 +268,8 @@ impl<'p, 'k> Writer<'p, 'k> {
     /// `DoubleSleep` as `write` does, as `Interrupted` with the notes that ended the wait, and as
     /// `TimedOut` where a tick ended it and no other note came; a refused write took nothing. With
     /// any other answer, other notes that came are pending again. Where a tick has taken its timer,
-    /// it waits for that tick's note before it answers, so that no late expiry reaches a later
-    /// sleep.
+    /// it takes a note `expired` before it answers: so no late expiry reaches a later sleep, unless
+    /// others post that note.
     pub fn write_within<R: Wait>(
         &mut self,
         alloc: Global,
@@ -278,8 +279,8 @@ impl<'p, 'k> Writer<'p, 'k> {
         ms: u32,
         bytes: &[u8],
     ) -> Result<u64, Fault>
-        // A write above the atomic size is refused first, and then a process of a kernel that does
-        // not own all the Rendez of the direction.
+        // A write above the atomic size is refused first, and then a process of a kernel that has
+        // too few Rendez for the direction.
         ensures too_big { ATOMIC_SIZE < length bytes.now
             → IsRefusedAs TooBig (watched_write self.old watch.old) result
             (watched_write self.new watch.new) }
@@ -318,7 +319,7 @@ impl<'p, 'k> Writer<'p, 'k> {
     /// and `NoRendez` comes before any byte is taken.
     pub fn write_long<R: Wait>(&mut self, alloc: Global, rt: &R, bytes: &[u8]) -> Long
         // None of its writes is above the atomic size, and it is refused as `NoRendez` just where
-        // the process is of a kernel that does not own all the Rendez of the direction.
+        // the process is of a kernel that has too few Rendez for the direction.
         ensures too_big { result.fault ≢ Some TooBig }
         ensures no_rendez { (result.fault ≡ Some NoRendez)
             ↔ ¬ OwnsRow self.old.proc.words self.old.end.row }
@@ -334,9 +335,9 @@ impl<'p, 'k> Writer<'p, 'k> {
     }
 
     /// Hangs its direction up, for all writers and for good, and wakes both sides. What was
-    /// accepted stays readable. A second hangup wakes again. A process whose kernel does not own
-    /// all the Rendez of the direction hangs it up and wakes nobody. Takes no memory and doesn't
-    /// wait. After pipe(2).
+    /// accepted stays readable. A second hangup wakes again. A process whose kernel has too few
+    /// Rendez for the direction hangs it up and wakes nobody. Takes no memory and doesn't wait.
+    /// After pipe(2).
     pub fn hangup(&mut self)
         ensures hung { Enters (key_of self.old.end.queue) (Hung (self.old.end.writer + 1))
             self.old.end.account self.new.end.account }

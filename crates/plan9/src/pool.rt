@@ -119,8 +119,8 @@ impl Pool {
     }
 
     /// The first holder of units of this pool. Refuses, in this order, as `NoRendez` a process
-    /// whose kernel does not own all the Rendez of the pool, and as `NoProc` where somebody was the
-    /// first before; the process comes back. Takes no memory and doesn't wait.
+    /// whose kernel has too few Rendez for the pool, and as `NoProc` where somebody was the first
+    /// before; the process comes back. Takes no memory and doesn't wait.
     pub fn first<'s, 'k>(&'s mut self, proc: Proc<'k>) -> Result<Holder<'s, 'k>, Refused<'k>>
         ensures fault { IfErr result (ComesBack (WhyNotFirst self.old proc.entry) proc.entry) }
         ensures first { IfOk result (IsFirstHolder self.old proc.entry) }
@@ -378,8 +378,8 @@ impl<'s, 'k> Holder<'s, 'k> {
     /// Refuses, in this order, as `Worn` and `DoubleSleep` as `acquire` does, `Interrupted` with
     /// the notes that ended the wait, and `TimedOut` where a tick ended it and no other note came;
     /// a refused call has got no unit. With any other answer, other notes that came are pending
-    /// again. Where a tick has taken its timer, it waits for that tick's note before it answers, so
-    /// that no late expiry reaches a later sleep. Takes no memory.
+    /// again. Where a tick has taken its timer, it takes a note `expired` before it answers: so no
+    /// late expiry reaches a later sleep, unless others post that note. Takes no memory.
     pub fn acquire_within<R: Wait>(
         &mut self,
         rt: &R,
@@ -438,9 +438,8 @@ impl<'s, 'k> Holder<'s, 'k> {
     }
 
     /// Another holder, with a seat of its own. Refuses, in this order, as `NoRendez` a process
-    /// whose kernel does not own all the Rendez of the pool, and as `NoProc` where the pool has had
-    /// all its processes; the process comes back. It waits for the semaphore's lock. Takes no
-    /// memory.
+    /// whose kernel has too few Rendez for the pool, and as `NoProc` where the pool has had all its
+    /// processes; the process comes back. It waits for the semaphore's lock. Takes no memory.
     pub fn join<R: Wait>(&mut self, rt: &R, proc: Proc<'k>) -> Result<Holder<'s, 'k>, Refused<'k>>
         ensures same { IsSameParent self.old self.new }
         ensures fault { IfErr result
@@ -468,8 +467,8 @@ impl<'s, 'k> Holder<'s, 'k> {
 
     /// A child of this process, in its note group, as another holder. Refuses as `NoProc` where no
     /// pid is left or the pool has had all its processes, and then nothing is used up; and as
-    /// `NoRendez` where the kernel of the roster does not own all the Rendez of the pool: the child
-    /// and its seat then come back. It waits for the semaphore's lock. Takes no memory.
+    /// `NoRendez` where the kernel of the roster has too few Rendez for the pool: the child and its
+    /// seat then come back. It waits for the semaphore's lock. Takes no memory.
     pub fn fork<R: Wait>(
         &mut self,
         rt: &R,

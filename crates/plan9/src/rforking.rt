@@ -67,11 +67,11 @@ impl<'s, 'k> Guest<'s, 'k> {
     /// that is to be the first of the new one. With RFREND alone the caller is that process. With
     /// RFNOTEG a child or, without RFPROC, the caller is the first of a new note group.
     ///
-    /// Refuses, in this order, as `NoRendez` where the kernel of the roster does not own all the
-    /// Rendez of the hall, `BadFlags` for any other flag, `NoProc` where no pid is left, `NoRendez`
-    /// where no row for a new hall is left, `NoProc` where the hall has had all its guests, and
-    /// `Memory`. A refusal uses up no pid, no Rendez and no member, and hands the guest back. It
-    /// waits for the space's lock. With RFREND it takes memory.
+    /// Refuses, in this order, as `NoRendez` where the kernel of the roster has too few Rendez for
+    /// the hall, `BadFlags` for any other flag, `NoProc` where no pid is left, `NoRendez` where no
+    /// row for a new hall is left, `NoProc` where the hall has had all its guests, and `Memory`. A
+    /// refusal uses up no pid, no Rendez and no member, and hands the guest back. It waits for the
+    /// space's lock. With RFREND it takes memory.
     pub fn rfork<R: Wait>(
         self,
         alloc: Global,
@@ -142,7 +142,7 @@ impl<'s, 'k> Guest<'s, 'k> {
     }
 }
 
-// Whether the roster's kernel owns so many Rendez from this one on.
+// Whether the roster's kernel has so many Rendez from this one on.
 fn gives_row(roster: &Roster<'_>, first: u64, procs: u64) -> bool
     ensures { result ≡ true ↔ first + procs ≤ rendez_of roster.now.words }
 {

@@ -77,8 +77,8 @@ impl<'p> Shared<'p> {
     }
 
     /// The first process with turns at the end. Refuses, in this order, as `NoRendez` a process
-    /// whose kernel does not own all the Rendez of the turns, and as `NoProc` where somebody was
-    /// the first before; the process comes back. Takes no memory and doesn't wait.
+    /// whose kernel has too few Rendez for the turns, and as `NoProc` where somebody was the first
+    /// before; the process comes back. Takes no memory and doesn't wait.
     pub fn first<'s, 'k>(&'s mut self, proc: Proc<'k>) -> Result<Sharer<'s, 'p, 'k>, Refused<'k>>
         ensures fault { IfErr result
             (ComesBack (WhyNotFirst self.old.turns proc.entry) proc.entry) }

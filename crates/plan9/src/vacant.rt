@@ -29,7 +29,7 @@ impl<'s> Model for Vacant<'s> {
     } };
 }
 
-/// A process, and a seat that it can't have: its kernel does not own all the Rendez of the pool.
+/// A process, and a seat that it can't have: its kernel has too few Rendez for the pool.
 #[derive(Drop)]
 pub struct Unseated<'s, 'k> {
     pub seat: Vacant<'s>,
@@ -76,8 +76,8 @@ impl<'s> Vacant<'s> {
     ghost use Rattle.semaphore.specs.Seats.{OwnsRow};
     ghost use Rattle.plan9.specs.Pools.{IsFilled};
 
-    /// Gives the seat to a process. Refuses a process whose kernel does not own all the Rendez of
-    /// the pool, and hands both back. Takes no memory and doesn't wait.
+    /// Gives the seat to a process. Refuses a process whose kernel has too few Rendez for the pool,
+    /// and hands both back. Takes no memory and doesn't wait.
     pub fn fill<'k>(self, proc: Proc<'k>) -> Result<Holder<'s, 'k>, Unseated<'s, 'k>>
         // Refused first, and then both are as they were.
         ensures refused { OnErr result (¬ OwnsRow self.entry.sema proc.entry.words) }

@@ -22,8 +22,8 @@ impl Sema {
     /// Refuses, in this order, as `Worn` and `DoubleSleep` as `semacquire` does, `Interrupted` with
     /// the notes that ended the wait, and `TimedOut` where a tick ended it and no other note came;
     /// a refused call has got no unit. With any other answer, other notes that came are pending
-    /// again. Where a tick has taken its timer, it waits for that tick's note before it answers, so
-    /// that no late expiry reaches a later sleep. Takes no memory.
+    /// again. Where a tick has taken its timer, it takes a note `expired` before it answers: so no
+    /// late expiry reaches a later sleep, unless others post that note. Takes no memory.
     pub fn tsemacquire<R: Wait>(
         &self,
         rt: &R,

@@ -50,7 +50,7 @@ has_company pid groups = nat_lt 1 (length (group_of pid groups))
 abbrev pub leaves : ℕ → List (List ℕ) → List (List ℕ)
 leaves pid groups = if has_company pid groups then begins pid (parts pid groups) else groups
 
--- a child joins its parent's group; where the parent is in no group, as a parent of another kernel,
+-- a child joins its parent's group; where the parent is in no group, since its pid was not given,
 -- the child begins a group
 abbrev pub follows : ℕ → ℕ → List (List ℕ) → List (List ℕ)
 follows parent child groups =

@@ -1,7 +1,7 @@
 -- What a call with a deadline does: the wait of all devices, and one timer, set and cancelled.
--- After tsemacquire in semacquire(2) and tsleep of the kernel. Own: the ticks, the wait for the
--- note of a tick that took the timer, and which notes are put back. The steps of a process and the
--- requests at its timers are two histories: nothing says which step comes before which request.
+-- After tsemacquire in semacquire(2) and tsleep of the kernel. Own: the ticks, the wait for a note
+-- `expired` where a tick took the timer, and which notes are put back. The steps of a process and
+-- the requests at its timers are two histories: nothing says which step comes before which request.
 use Rattle.std.specs.Prelude.{◌≡◌, ◌≢◌, ◌⊎◌, ℕ, zero, suc, Bool, true, false, Some, None}
 use Rattle.std.specs.Prelude.{Result, Ok, Err}
 use Rattle.kernel_lock.specs.Seats.{number_of, opening_of, seen_of}
@@ -57,7 +57,7 @@ pub record Awaiting : Type 0 where
 abbrev pub awaiting : Running → NoteSet → Awaiting
 awaiting proc set = record { process = proc.process; notes = set }
 
--- it looked once more: a tick took its timer, and the note of that tick had yet to come
+-- it looked once more: a tick took its timer, and no note `expired` had come yet
 pub record LooksAgain (rendez : RendezId) (expired : Bool) (Before : Awaiting → Type 0)
     (now : Awaiting) : Type 0 where
   pub between : Awaiting
@@ -73,7 +73,7 @@ Looks rendez expired zero first now = now ≡ first
 Looks rendez expired (suc times) first now =
     LooksAgain rendez expired (Looks rendez expired times first) now
 
--- where a tick took its timer, it looked until the note of that tick had come
+-- where a tick took its timer, it looked until a note `expired` had come
 pub record AwaitsTick (rendez : RendezId) (expired : Bool) (first last : Awaiting) : Type 0 where
   pub times : ℕ
   pub looks : Looks rendez expired times first last
@@ -117,8 +117,8 @@ module _ {Out : Type 0} (expired : Bool) (others : NoteSet) where
 abbrev pub TimedPoint : Type 0 → Type 0
 TimedPoint Seat = RunPoint TimerSeat Seat
 
--- A call cancelled its timer. After its sleeps it waited for the note of a tick that had taken the
--- timer, and kept what came.
+-- A call cancelled its timer. After its sleeps it waited for a note `expired` where a tick had
+-- taken the timer, and kept what came.
 pub record TimedEnd {Out : Type 0} (rendez : RendezId) (timers : Timers) (set : TimerSeat)
     (ending : WaitEnd Out) (slept : Process) (answer : Result Out Fault) (timer : TimerSeat)
     (after : Process) : Type 0 where
@@ -126,7 +126,7 @@ pub record TimedEnd {Out : Type 0} (rendez : RendezId) (timers : Timers) (set : 
   pub expired : Bool
   pub cancelled : AsksTimers timers false (Cancel (number_of set.seat)) (cancel_reply expired)
       set timer
-  -- the process when that tick's note had come
+  -- the process when that note had come
   pub awaited : Awaiting
   pub awaits : AwaitsTick rendez expired (record { process = slept; notes = notes_of ending })
       awaited

@@ -29,8 +29,8 @@ impl Timers {
     /// as `DoubleSleep` where another process sleeps there, as `Interrupted` with the notes that
     /// ended it, which are no longer pending, and as `TimedOut` where a tick ended it and no other
     /// note came. With any other answer, other notes that came are pending again. Where a tick has
-    /// taken its timer, it waits for that tick's note before it answers, so that no late expiry
-    /// reaches a later sleep. It waits for the timers' lock. Takes no memory.
+    /// taken its timer, it takes a note `expired` before it answers: so no late expiry reaches a
+    /// later sleep, unless others post that note. It waits for the timers' lock. Takes no memory.
     pub fn sleep_within<R: Wait>(
         &self,
         rt: &R,

@@ -77,10 +77,10 @@ impl<'t> Runner for Deadline<'t> {
 /// A call that has to wait sets its timer first. Where notes end its wait, and it has come to no
 /// result by then, it is refused as `TimedOut` where a tick took its timer and no other note came,
 /// and else as `Interrupted` with the other notes. With any other answer, other notes that came are
-/// pending again. Where a tick has taken its timer, it waits for that tick's note before it
-/// answers, so that no late expiry reaches a later sleep. The probe is called at its points: 2
-/// before each sleep of the call, and 3 after it. It waits for the timers' lock. Takes no memory of
-/// its own.
+/// pending again. Where a tick has taken its timer, it takes a note `expired` before it answers: so
+/// no late expiry reaches a later sleep, unless others post that note. The probe is called at its
+/// points: 2 before each sleep of the call, and 3 after it. It waits for the timers' lock. Takes no
+/// memory of its own.
 pub fn wait_within<R: Wait, C: WaitingCall, P: Probe>(
     rt: &R,
     proc: &mut Proc<'_>,
@@ -130,8 +130,8 @@ pub fn wait_within<R: Wait, C: WaitingCall, P: Probe>(
     }
 }
 
-// The rest of a call with a deadline, after its sleeps: it cancels its timer, awaits the note of a
-// tick that has taken it, and answers.
+// The rest of a call with a deadline, after its sleeps: it cancels its timer, awaits a note
+// `expired` if a tick has taken it, and answers.
 fn end_within<R: Wait, T: Drop>(
     rt: &R,
     proc: &mut Proc<'_>,
@@ -163,8 +163,8 @@ fn taken_by<T>(ending: &WaitEnd<T>) -> NoteSet
     }
 }
 
-// Where a tick has taken the timer, looks until the note of that tick has come. Answers which notes
-// came in all.
+// Where a tick has taken the timer, looks until a note `expired` has come. Answers which notes came
+// in all.
 fn await_tick<R: Wait>(
     rt: &R,
     proc: &mut Proc<'_>,
