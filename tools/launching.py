@@ -1,4 +1,4 @@
-"""What the launcher p9sync needs to build a program. It is imported where one has to be built."""
+"""What the launcher needs to build a program. It is imported where one has to be built."""
 import contextlib
 import errno
 import fcntl
@@ -53,7 +53,8 @@ def build(program, file, why):
     if why:
         path = f"{TOP}/{program.out}/build.log"
         log = begin_log(path)
-        say(f"{NAME}: the program {why}: building it, which takes {TAKES[NAME]} on four processors, 7 GB of memory and 3.7 GB of disk the first time")
+        takes = TAKES.get(NAME, "10 to 40 minutes")
+        say(f"{NAME}: the program {why}: building it, which takes {takes} on four processors, 7 GB of memory and 3.7 GB of disk the first time")
         status = run_builder([NAME, str(lanes())], log, lock, Progress(path, len(program.lines)).show)
         if status:
             fail(f"the program was not built{is_full(path)}; what the prover said is in {path}")
@@ -85,6 +86,7 @@ def compile_unproved(program, file):
     if program.why_not(file):
         compile_to(f"{TOP}/{file}", f"{out}/try.log", lock)
         note(program, file)
+        say(f"{NAME}: compiled, and kept as {TOP}/{file}: nothing of it is proved")
     os.close(lock)
     return f"{TOP}/{file}"
 
@@ -95,6 +97,7 @@ def compile_aside(out):
     with tempfile.TemporaryDirectory(prefix=f"{NAME}-") as folder:
         lock, _ = take_lock(f"{folder}/lock")
         compile_to(f"{folder}/{NAME}", f"{folder}/log", lock)
+        say(f"{NAME}: compiled: nothing of it is proved")
         os.close(lock)
         return os.open(f"{folder}/{NAME}", os.O_RDONLY)
 
