@@ -1,6 +1,6 @@
 //! How a process looks at its flags, and parks until they change. A process parks only on what it
 //! saw in its flags after its announcement: `look_announced` alone gives a `Seen`, and `park` alone
-//! spends it.
+//! spends it. What has announced itself goes from call to call, and the process with it.
 ghost use Rattle.std.specs.Prelude.{◌≡◌, ◌<◌, ◌%◌, ◌^◌, OnErr, IfOk, IfErr, MatchResult};
 ghost use Rattle.std.specs.Bool.{OnTrue, OnFalse};
 ghost use Rattle.sleep_core.specs.Table.Cell.{FlagsOf};
@@ -20,11 +20,19 @@ use sleep_core::{Event, ProcFlags};
 use std::marker::Brand;
 use std::sync::Wait;
 
-/// What a process saw in its flags after its announcement: flags that don't end its wait.
+/// A process that has announced that it parks, and what it then saw in its flags: they don't end
+/// its wait. `park` spends it.
 #[must_use]
-pub(crate) struct Seen<'a> {
-    announced: &'a Announced,
+pub(crate) struct Seen {
+    announced: Announced,
     word: u64,
+}
+
+/// A process that has announced that it parks, and the flags that end its wait.
+#[must_use]
+pub(crate) struct Ended {
+    pub(crate) announced: Announced,
+    pub(crate) flags: ProcFlags,
 }
 
 impl Words {
@@ -55,52 +63,48 @@ impl Words {
 
     /// The same for a process that has announced that it parks.
     // A mark that found it awake came before it said so, and this look comes after: it sees that.
-    pub(crate) fn look_announced<'a>(
+    pub(crate) fn look_announced(
         &self,
-        announced: &'a Announced,
-        caller: &mut Caller,
+        mut announced: Announced,
         notes_end: bool,
-    ) -> Result<ProcFlags, Seen<'a>>
-        requires process { IsProcessOf self.now caller.old }
-        requires looking { IsLooking notes_end (phase_in caller.old) }
-        requires own { announced.now.said.pid ≡ caller.old.pid }
-        ensures table { caller.new.table ≡ caller.old.table }
+    ) -> Result<Ended, Seen>
+        requires process { IsProcessOf self.now announced }
+        requires looking { IsLooking notes_end (phase_in announced) }
+        ensures table { IfOk result (λ ended. ended.announced.table ≡ announced.table) }
         ensures made { MatchResult result
-            (λ flags. HasMade (sizes_of self.now) (Look (pid_in caller.old))
-            (part_of caller.old) (flags_word flags) (part_of caller.new))
-            (λ seen. HasMade (sizes_of self.now) (Look (pid_in caller.old))
-            (part_of caller.old) seen.word (part_of caller.new)) }
-        ensures ends { IfOk result (EndsWait notes_end) }
-        ensures same { OnErr result (caller.new ≡ caller.old) }
-        ensures announced { IfErr result (λ seen.
-            seen.announced.now.said.pid ≡ announced.now.said.pid) }
+            (λ ended. HasMade (sizes_of self.now) (Look (pid_in announced))
+            (part_of announced) (flags_word ended.flags) (part_of ended.announced))
+            (λ seen. HasMade (sizes_of self.now) (Look (pid_in announced))
+            (part_of announced) seen.word (part_of announced)) }
+        ensures ends { IfOk result (λ ended. EndsWait notes_end ended.flags) }
+        ensures same { IfErr result (λ seen. seen.announced ≡ announced) }
     {
-        match self.look_at(caller, notes_end) {
-            Ok(flags) => Ok(flags),
+        match announced.look(self, notes_end) {
+            Ok(flags) => Ok(Ended { announced, flags }),
             Err(word) => Err(Seen { announced, word }),
         }
     }
 
     /// Parks while the flags are what the process saw.
-    pub(crate) fn park<R: Wait>(&self, rt: &R, seen: Seen<'_>)
-        requires { seen.announced.now.said.pid < procs_of self.now }
+    pub(crate) fn park<R: Wait>(&self, rt: &R, seen: Seen) -> Announced
+        requires { IsProcessOf self.now seen.announced }
+        ensures { result ≡ seen.announced }
     {
         let word = self.flags_word(seen.announced.pid());
         let expected = (seen.word % (1 << 32)) as u32;
-        self.park_at(rt, seen, word, expected);
+        self.park_at(rt, seen, word, expected)
     }
 
     // Parks on the word of its flags.
-    fn park_at<R: Wait>(&self, rt: &R, seen: Seen<'_>, word: usize, expected: u32)
-        requires pid { seen.announced.now.said.pid < procs_of self.now }
-        requires word { word ≡ index_of (sizes_of self.now) (FlagsOf seen.announced.now.said.pid) }
+    fn park_at<R: Wait>(&self, rt: &R, seen: Seen, word: usize, expected: u32) -> Announced
+        requires pid { seen.announced.pid < procs_of self.now }
+        requires word { word ≡ index_of (sizes_of self.now) (FlagsOf seen.announced.pid) }
         requires expected { expected ≡ seen.word % 2 ^ 32 }
+        ensures { result ≡ seen.announced }
     {
-        let Seen {
-            announced: _,
-            word: _,
-        } = seen;
+        let Seen { announced, word: _ } = seen;
         self.table.shared.park(rt, word, expected);
+        announced
     }
 }
 

@@ -1,10 +1,15 @@
 //! Who parks. What a process announces here is no word of the table, and decides nothing: it keeps
 //! a mark and a note from a system call where the process does not park. Each step of parking and
 //! of waking gives a value that the next step spends, and that can't be dropped. `put` and `get`
-//! alone touch the words, and return what they wrote and found.
+//! alone touch the words, and return what they wrote and found. A process alone announces what it
+//! does: `put` takes its caller, which nobody else has, and keeps it until the process says again
+//! that it doesn't park.
 ghost use Rattle.std.specs.Prelude.{◌≡◌, ◌≢◌, ◌==◌, ◌<◌, ◌^◌, IfOk};
 ghost use Rattle.rendez_words.specs.declared.parking.TheConstants.{AWAKE, PARKS};
 
+use crate::states::Caller;
+use crate::words::Words;
+use sleep_core::ProcFlags;
 use std::alloc::{AllocError, Global};
 use std::marker::Model;
 use std::sync::atomic::AtomicU64;
@@ -33,18 +38,31 @@ impl Model for Parking {
     ghost view = { λ parking. length parking.parks.items / LINE };
 }
 
-/// What a process announces, as it was written or found.
-#[derive(Clone, Copy)]
+/// A process, and the word that it announced last. `back` spends it where that says that the
+/// process doesn't park.
+#[must_use]
 pub(crate) struct Said {
-    pid: u64,
+    caller: Caller,
     word: u64,
 }
 
-/// A process has announced that it parks. `leave` spends it.
+/// A process that has announced that it parks. `leave` spends it, and gives the process back: it
+/// can announce nothing in between.
 #[must_use]
 pub(crate) struct Announced {
     said: Said,
-    ghost parks: { said.word ≡ PARKS },
+}
+
+impl Model for Announced {
+    ghost use Rattle.std.specs.Prelude.{◌≡◌};
+    ghost use Rattle.rendez_words.specs.Process.{Process};
+    ghost use Rattle.rendez_words.specs.declared.parking.TheConstants.{PARKS};
+
+    ghost Value = { Process };
+
+    ghost view = { λ announced. announced.said.caller };
+
+    ghost invariant = { λ announced. announced.said.word ≡ PARKS };
 }
 
 /// The flags of a process were set, and it has yet to be woken. `wake` spends it.
@@ -54,11 +72,12 @@ pub(crate) struct Unwoken {
     found: u64,
 }
 
-/// The announcement of a process that is to be woken. `rouse` is for a process that parks, `pass`
+/// What a process that is to be woken has announced. `rouse` is for a process that parks, `pass`
 /// for any other.
 #[must_use]
 pub(crate) struct Found {
-    said: Said,
+    pid: u64,
+    word: u64,
 }
 
 impl Parking {
@@ -76,60 +95,94 @@ impl Parking {
     /// Announces that the process is about to park. It has to look at its flags again before it
     /// does.
     // A mark that finds it awake comes before this step, so that look finds the mark.
-    pub(crate) fn announce(&self, pid: Pid) -> Announced
-        requires { pid.0 < self.now }
-        ensures { result.said.pid ≡ pid.0 }
+    pub(crate) fn announce(&self, caller: Caller) -> Announced
+        requires { caller.pid < self.now }
+        ensures { result ≡ caller }
     {
-        let said = self.put(pid.0, PARKS);
+        let said = self.put(caller, PARKS);
         Announced { said }
     }
 
     /// Announces that the process doesn't park.
-    pub(crate) fn leave(&self, announced: Announced) -> Said
-        requires { announced.said.pid < self.now }
-        ensures pid { result.pid ≡ announced.said.pid }
-        ensures awake { result.word ≡ AWAKE }
+    pub(crate) fn leave(&self, announced: Announced) -> Caller
+        requires { announced.pid < self.now }
+        ensures { result ≡ announced }
     {
         let Announced { said } = announced;
-        self.put(said.pid, AWAKE)
+        let Said { caller, word: _ } = said;
+        self.put(caller, AWAKE).back()
     }
 
-    /// Finds the announcement of the process that is to be woken.
+    /// Finds what the process has announced that is to be woken.
     pub(crate) fn find(&self, unwoken: Unwoken) -> Found
         requires { unwoken.pid < self.now }
-        ensures { result.said.pid ≡ unwoken.pid }
+        ensures { result.pid ≡ unwoken.pid }
     {
         let Unwoken { pid, found: _ } = unwoken;
-        let said = self.get(pid);
-        Found { said }
+        self.get(pid)
     }
 
     // Store of what the process says.
-    fn put(&self, pid: u64, word: u64) -> Said
-        requires { pid < self.now }
-        ensures pid { result.pid ≡ pid }
+    fn put(&self, caller: Caller, word: u64) -> Said
+        requires { caller.pid < self.now }
+        ensures caller { result.caller ≡ caller }
         ensures word { result.word ≡ word }
     {
-        self.parks[(LINE * pid) as usize].store(word, SeqCst);
-        Said { pid, word }
+        self.parks[(LINE * caller.pid().0) as usize].store(word, SeqCst);
+        Said { caller, word }
     }
 
     // Load of what the process says.
-    fn get(&self, pid: u64) -> Said
+    fn get(&self, pid: u64) -> Found
         requires { pid < self.now }
         ensures { result.pid ≡ pid }
     {
         let word = self.parks[(LINE * pid) as usize].load(SeqCst);
-        Said { pid, word }
+        Found { pid, word }
+    }
+}
+
+impl Said {
+    // The process goes on: it has said that it doesn't park.
+    fn back(self) -> Caller
+        requires { self.word ≡ AWAKE }
+        ensures { result ≡ self.caller }
+    {
+        let Said { caller, word: _ } = self;
+        caller
     }
 }
 
 impl Announced {
+    ghost use Rattle.std.specs.Prelude.{OnErr, IfOk, MatchResult};
+    ghost use Rattle.sleep_core.specs.declared.event.Event.TheVariants.{Look};
+    ghost use Rattle.rendez_words.specs.FlagsWord.{flags_word};
+    ghost use Rattle.rendez_words.specs.Plays.{HasMade, part_of};
+    ghost use Rattle.rendez_words.specs.Process.{phase_in, pid_in};
+    ghost use Rattle.rendez_words.specs.States.{IsLooking, EndsWait};
+    ghost use Rattle.rendez_words.specs.Words.{IsProcessOf, sizes_of};
+
     /// The process that made the announcement.
     pub(crate) fn pid(&self) -> Pid
-        ensures { result.0 ≡ self.now.said.pid }
+        ensures { result ≡ pid_in self.now }
     {
-        Pid(self.said.pid)
+        self.said.caller.pid()
+    }
+
+    /// Looks at the flags of the process, as `Words::look_at` does, while its announcement stands.
+    pub(crate) fn look(&mut self, words: &Words, notes_end: bool) -> Result<ProcFlags, u64>
+        requires process { IsProcessOf words.now self.old }
+        requires looking { IsLooking notes_end (phase_in self.old) }
+        ensures table { self.new.table ≡ self.old.table }
+        ensures made { MatchResult result
+            (λ flags. HasMade (sizes_of words.now) (Look (pid_in self.old))
+            (part_of self.old) (flags_word flags) (part_of self.new))
+            (λ word. HasMade (sizes_of words.now) (Look (pid_in self.old))
+            (part_of self.old) word (part_of self.new)) }
+        ensures ends { IfOk result (EndsWait notes_end) }
+        ensures same { OnErr result (self.new ≡ self.old) }
+    {
+        words.look_at(&mut self.said.caller, notes_end)
     }
 }
 
@@ -146,30 +199,30 @@ impl Unwoken {
 impl Found {
     /// The process that is to be woken.
     pub(crate) fn pid(&self) -> Pid
-        ensures { result.0 ≡ self.now.said.pid }
+        ensures { result.0 ≡ self.now.pid }
     {
-        Pid(self.said.pid)
+        Pid(self.pid)
     }
 
     /// Whether it parks, or is about to.
     pub(crate) fn parks(&self) -> bool
-        ensures { result ≡ (self.now.said.word == PARKS) }
+        ensures { result ≡ (self.now.word == PARKS) }
     {
-        self.said.word == PARKS
+        self.word == PARKS
     }
 
     /// The process is woken by a system call.
     pub(crate) fn rouse(self)
-        requires { self.said.word ≡ PARKS }
+        requires { self.word ≡ PARKS }
     {
-        let Found { said: _ } = self;
+        let Found { pid: _, word: _ } = self;
     }
 
     /// The process doesn't park, so it needs no system call: it looks at its flags again before it
     /// does.
     pub(crate) fn pass(self)
-        requires { self.said.word ≢ PARKS }
+        requires { self.word ≢ PARKS }
     {
-        let Found { said: _ } = self;
+        let Found { pid: _, word: _ } = self;
     }
 }

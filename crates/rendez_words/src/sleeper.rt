@@ -13,6 +13,7 @@ use crate::states::{
     Asleep, Awaiting, Cleared, Leaving, LookAnswer, Out, Posted, Refused, Seat, TestAnswer,
     WithdrawAnswer, Woken,
 };
+use crate::waiting::Awaited;
 use crate::words::Words;
 use sleep_core::Event;
 use std::marker::Brand;
@@ -117,11 +118,11 @@ impl Words {
         ensures words { IfLooked result (IsProcessOf self.now) (IsProcessOf self.now) }
     {
         let Asleep {
-            mut caller,
+            caller,
             rendez,
             threshold: _,
         } = asleep;
-        let flags = self.await_flags(rt, &mut caller, true);
+        let Awaited { caller, flags } = self.await_flags(rt, caller, true);
         if flags.wake {
             LookAnswer::Woken(Woken { caller })
         } else {
@@ -162,8 +163,8 @@ impl Words {
         ensures looked { result ≡ looks awaiting answer.Woken }
         ensures words { IsProcessOf self.now result }
     {
-        let Awaiting { mut caller } = awaiting;
-        self.await_flags(rt, &mut caller, false);
+        let Awaiting { caller } = awaiting;
+        let Awaited { caller, flags: _ } = self.await_flags(rt, caller, false);
         Woken { caller }
     }
 

@@ -11,6 +11,7 @@ ghost use Rattle.rendez_words.specs.Steps.{clears};
 ghost use Rattle.rendez_words.specs.Words.{IsProcessOf, sizes_of};
 
 use crate::flags_word::flags_in;
+use crate::looking::Ended;
 use crate::states::Caller;
 use crate::words::Words;
 use sleep_core::{Event, ProcFlags};
@@ -29,24 +30,31 @@ const YIELDS: u64 = 100;
 /// How long it pauses between two looks.
 const PAUSES: u64 = 8;
 
+/// A process whose wait is over, and the flags that ended it.
+#[derive(Drop)]
+pub(crate) struct Awaited {
+    pub(crate) caller: Caller,
+    pub(crate) flags: ProcFlags,
+}
+
 impl Words {
     /// Looks at the flags of the process until they end its wait: with the mark of a wakeup, or,
     /// where `notes_end` says so, with notes.
     pub(crate) fn await_flags<R: Wait>(
         &self,
         rt: &R,
-        caller: &mut Caller,
+        mut caller: Caller,
         notes_end: bool,
-    ) -> ProcFlags
-        requires process { IsProcessOf self.now caller.old }
-        requires looking { IsLooking notes_end (phase_in caller.old) }
-        ensures table { caller.new.table ≡ caller.old.table }
-        ensures made { HasMade (sizes_of self.now) (Look (pid_in caller.old))
-            (part_of caller.old) (flags_word result) (part_of caller.new) }
-        ensures ends { EndsWait notes_end result }
+    ) -> Awaited
+        requires process { IsProcessOf self.now caller }
+        requires looking { IsLooking notes_end (phase_in caller) }
+        ensures table { result.caller.table ≡ caller.table }
+        ensures made { HasMade (sizes_of self.now) (Look (pid_in caller))
+            (part_of caller) (flags_word result.flags) (part_of result.caller) }
+        ensures ends { EndsWait notes_end result.flags }
     {
-        match self.poll(caller, notes_end) {
-            Some(flags) => flags,
+        match self.poll(&mut caller, notes_end) {
+            Some(flags) => Awaited { caller, flags },
             None => self.rest(rt, caller, notes_end),
         }
     }
@@ -72,23 +80,23 @@ impl Words {
     }
 
     // Says that the process parks, and then looks and parks in turn.
-    fn rest<R: Wait>(&self, rt: &R, caller: &mut Caller, notes_end: bool) -> ProcFlags
-        requires process { IsProcessOf self.now caller.old }
-        requires looking { IsLooking notes_end (phase_in caller.old) }
-        ensures table { caller.new.table ≡ caller.old.table }
-        ensures made { HasMade (sizes_of self.now) (Look (pid_in caller.old))
-            (part_of caller.old) (flags_word result) (part_of caller.new) }
-        ensures ends { EndsWait notes_end result }
+    fn rest<R: Wait>(&self, rt: &R, caller: Caller, notes_end: bool) -> Awaited
+        requires process { IsProcessOf self.now caller }
+        requires looking { IsLooking notes_end (phase_in caller) }
+        ensures table { result.caller.table ≡ caller.table }
+        ensures made { HasMade (sizes_of self.now) (Look (pid_in caller))
+            (part_of caller) (flags_word result.flags) (part_of result.caller) }
+        ensures ends { EndsWait notes_end result.flags }
     {
-        let announced = self.parking.announce(caller.pid());
+        let mut announced = self.parking.announce(caller);
         for _ in rt.forever() {
-            match self.look_announced(&announced, caller, notes_end) {
-                Ok(flags) => {
-                    self.parking.leave(announced);
-                    return flags;
+            announced = match self.look_announced(announced, notes_end) {
+                Ok(Ended { announced, flags }) => {
+                    let caller = self.parking.leave(announced);
+                    return Awaited { caller, flags };
                 }
                 Err(seen) => self.park(rt, seen),
-            }
+            };
         }
         unreachable!()
     }

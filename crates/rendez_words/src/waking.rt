@@ -29,9 +29,9 @@ impl Words {
 
     // Wakes the process that was found parking, on the word of its flags.
     fn wake_at(&self, found: Found, word: usize)
-        requires pid { found.said.pid < procs_of self.now }
-        requires parks { found.said.word ≡ PARKS }
-        requires word { word ≡ index_of (sizes_of self.now) (FlagsOf found.said.pid) }
+        requires pid { found.pid < procs_of self.now }
+        requires parks { found.word ≡ PARKS }
+        requires word { word ≡ index_of (sizes_of self.now) (FlagsOf found.pid) }
     {
         found.rouse();
         self.table.shared.wake_one(word);
