@@ -1,4 +1,6 @@
--- What each call of a lock does to what its seat knows, and to the object.
+-- What each call of a lock does to what its seat knows, and to the object. Of what a seat knows
+-- these say the account and how many seats were given. The rest, the key and the stage, is said of
+-- each seat between two calls, by `IsSeatOf`.
 use Rattle.std.specs.Prelude.{◌≡◌, ℕ, ◌+◌, ◌<◌, ◌≤◌, List, [], ◌∷◌, max}
 use Rattle.std.specs.Prelude.{Option, Some, None, unwrap_or}
 use Rattle.histories.specs.History.{IsHistory, state_after}

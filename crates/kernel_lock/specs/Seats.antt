@@ -54,7 +54,8 @@ module _ {Object Call Reply : Type 0} where
   abbrev pub HasAll : LockSeat Object Call Reply → Type 0
   HasAll seat = HasAllNumbers (account_of seat)
 
-  -- the seat is one of the lock's, and is between two calls
+  -- the seat is one of the lock's, and is between two calls; the table's own number of it, its
+  -- badge's `id`, is named by no clause
   pub record IsSeatOf (lock : Locked Object Call Reply)
       (seat : LockSeat Object Call Reply) : Type 0 where
     pub table : seat.badge.table_id ≡ lock.table.shared.table_id

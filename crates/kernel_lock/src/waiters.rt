@@ -2,8 +2,9 @@
 //! keeps waiters from burning the processor, and releases from system calls where nobody sleeps.
 //! What has to be done for sleepers is a value that only the next act spends: after a release the
 //! mark is looked at, a mark that is set is cleared, and then one thread is woken. A thread that
-//! has slept sets the mark again.
-ghost use Rattle.std.specs.Prelude.{◌≡◌, ◌≢◌, ◌%◌, true, false, IfNone};
+//! has slept sets the mark again. None of these values can be dropped. `announce`, `look`,
+//! `exchange`, `park` and `wake_one` alone touch the mark, and tell what they found.
+ghost use Rattle.std.specs.Prelude.{◌≡◌, ◌≢◌, ◌==◌, ◌+◌, ◌%◌, ◌^◌, true, false, IfSome, IfNone};
 ghost use Rattle.kernel_lock.specs.declared.view.Stage.TheVariants.{Outside};
 
 use crate::object::Object;
@@ -25,15 +26,34 @@ pub struct Waiters {
     mark: AtomicU64,
 }
 
-/// A thread has announced that it is about to sleep, and this is the mark that it left.
-#[derive(Drop, Debug, PartialEq)]
+/// The mark was set, and this is what it then was: the thread is about to sleep, or others may.
+#[must_use]
 pub(crate) struct Announced {
     mark: u32,
     ghost odd: { mark % 2 ≡ 1 },
 }
 
+impl Announced {
+    /// The thread doesn't sleep: this is the word of the lock, as it was found after the
+    /// announcement. The mark stays, and may cost a release a system call.
+    pub(crate) fn free(self, _word: u64)
+        requires { _word ≡ 0 }
+    {
+        let Announced { mark: _ } = self;
+    }
+
+    // The thread has slept and has the lock: the mark is for others.
+    fn again(self, attempt: Attempt) -> Again
+        requires { attempt.slept ≡ true }
+    {
+        let Announced { mark: _ } = self;
+        let Attempt { slept: _ } = attempt;
+        Again { marker: () }
+    }
+}
+
 /// The lock was found taken after the announcement. `sleep` spends it.
-#[derive(Drop)]
+#[must_use]
 pub(crate) struct Taken {
     announced: Announced,
 }
@@ -45,6 +65,12 @@ impl Taken {
     {
         Taken { announced }
     }
+}
+
+/// A thread that has slept, and has the lock, has set the mark again.
+#[derive(Drop)]
+pub(crate) struct Again {
+    marker: (),
 }
 
 /// An attempt at the lock: whether the thread that makes it has slept for it. It can't be dropped:
@@ -78,11 +104,72 @@ impl GivenBack {
     }
 }
 
+/// The mark, as a release found it. `marked` spends one that is odd, `pass` any other.
+#[must_use]
+pub(crate) struct Found {
+    mark: u64,
+}
+
+impl Found {
+    /// Whether a thread sleeps, or is about to.
+    pub(crate) fn is_odd(&self) -> bool
+        ensures { result ≡ (self.now.mark % 2 == 1) }
+    {
+        self.mark % 2 == 1
+    }
+
+    pub(crate) fn marked(self) -> Marked
+        requires { self.mark % 2 ≡ 1 }
+        ensures { result.mark ≡ self.mark }
+    {
+        let Found { mark } = self;
+        Marked { mark }
+    }
+
+    /// Nobody sleeps, so nobody is woken.
+    pub(crate) fn pass(self)
+        requires { self.mark % 2 ≢ 1 }
+    {
+        let Found { mark: _ } = self;
+    }
+}
+
 /// A mark that says that somebody sleeps. It can't be dropped: `clear` spends it.
 #[must_use]
 pub(crate) struct Marked {
     mark: u64,
     ghost odd: { mark % 2 ≡ 1 },
+}
+
+/// The mark that was to be cleared, and what it was found to be. `cleared` spends it where they are
+/// one, and else `pass`.
+#[must_use]
+pub(crate) struct Change {
+    mark: u64,
+    found: u64,
+}
+
+impl Change {
+    /// Whether the mark was cleared.
+    pub(crate) fn is_made(&self) -> bool
+        ensures { result ≡ (self.now.found == self.now.mark) }
+    {
+        self.found == self.mark
+    }
+
+    pub(crate) fn cleared(self) -> Cleared
+        requires { self.found ≡ self.mark }
+    {
+        let Change { mark: _, found: _ } = self;
+        Cleared { marker: () }
+    }
+
+    /// Another release has cleared the mark, and wakes a thread.
+    pub(crate) fn pass(self)
+        requires { self.found ≢ self.mark }
+    {
+        let Change { mark: _, found: _ } = self;
+    }
 }
 
 /// A mark that was cleared, and its sleeper is not yet woken. It can't be dropped: `wake_one`
@@ -115,38 +202,58 @@ impl Waiters {
         ensures slept { result.slept ≡ true }
     {
         let Attempt { slept: _ } = attempt;
-        self.mark.park(rt, taken.announced.mark);
+        let expected = taken.announced.mark;
+        self.park(rt, taken, expected);
         Attempt { slept: true }
+    }
+
+    // Sleeps while the mark is what was announced.
+    fn park<R: Wait>(&self, rt: &R, taken: Taken, expected: u32)
+        requires { expected ≡ taken.announced.mark }
+    {
+        let Taken { announced } = taken;
+        let Announced { mark: _ } = announced;
+        self.mark.park(rt, expected);
     }
 
     /// Ends the attempt of a thread that has the lock, and says whether it set the mark again. A
     /// thread that slept was woken in place of others, who may sleep still: its release wakes one
     /// of them.
-    pub(crate) fn pass_on(&self, attempt: Attempt) -> Option<Announced>
+    pub(crate) fn pass_on(&self, attempt: Attempt) -> Option<Again>
         ensures slept { IfNone result (attempt.slept ≡ false) }
+        ensures again { IfSome result (λ _. attempt.slept ≡ true) }
     {
-        let Attempt { slept } = attempt;
-        if slept { Some(self.announce()) } else { None }
-    }
-
-    /// Looks after a release whether a thread has announced itself.
-    pub(crate) fn look(&self, given_back: GivenBack) -> Option<Marked> {
-        let GivenBack { marker: () } = given_back;
-        let mark = self.mark.load(SeqCst);
-        if mark % 2 == 1 {
-            Some(Marked { mark })
+        if attempt.slept {
+            Some(self.announce().again(attempt))
         } else {
+            let Attempt { slept: _ } = attempt;
             None
         }
     }
 
+    /// Looks after a release whether a thread has announced itself.
+    pub(crate) fn look(&self, given_back: GivenBack) -> Found {
+        let GivenBack { marker: () } = given_back;
+        let mark = self.mark.load(SeqCst);
+        Found { mark }
+    }
+
     /// Clears the mark, if no other release did.
-    pub(crate) fn clear(&self, marked: Marked) -> Option<Cleared> {
+    pub(crate) fn clear(&self, marked: Marked) -> Change
+        ensures { result.mark ≡ marked.mark }
+    {
         let Marked { mark } = marked;
-        let next = mark.wrapping_add(1);
+        self.exchange(mark, mark.wrapping_add(1))
+    }
+
+    // Compare-exchange of the mark.
+    fn exchange(&self, mark: u64, next: u64) -> Change
+        requires { next ≡ (mark + 1) % 2 ^ 64 }
+        ensures { result.mark ≡ mark }
+    {
         match self.mark.compare_exchange(mark, next, SeqCst, SeqCst) {
-            Ok(_) => Some(Cleared { marker: () }),
-            Err(_) => None,
+            Ok(found) => Change { mark, found },
+            Err(found) => Change { mark, found },
         }
     }
 

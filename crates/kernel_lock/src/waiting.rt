@@ -8,7 +8,7 @@ use crate::object::Object;
 use crate::plays::Made;
 use crate::rule::Stepper;
 use crate::steps::FREE;
-use crate::waiters::{Announced, Attempt, GivenBack, Taken};
+use crate::waiters::{Announced, Attempt, GivenBack, Marked, Taken};
 use std::hint::spin_loop;
 use std::sync::Wait;
 
@@ -89,6 +89,7 @@ impl<O: Object> Locked<O> {
     {
         let found = self.poll(stepper);
         if found == FREE {
+            announced.free(found);
             return None;
         }
         Some(Taken::after(announced, found))
@@ -107,10 +108,21 @@ impl<O: Object> Locked<O> {
 
     // Wakes one thread, if any has announced itself. Otherwise it is a load, and calls no system.
     fn wake(&self, given_back: GivenBack) {
-        if let Some(marked) = self.waiters.look(given_back) {
-            if let Some(cleared) = self.waiters.clear(marked) {
-                self.waiters.wake_one(cleared);
-            }
+        let found = self.waiters.look(given_back);
+        if found.is_odd() {
+            self.wake_marked(found.marked());
+        } else {
+            found.pass();
+        }
+    }
+
+    // Wakes one thread, unless another release has cleared the mark and does.
+    fn wake_marked(&self, marked: Marked) {
+        let change = self.waiters.clear(marked);
+        if change.is_made() {
+            self.waiters.wake_one(change.cleared());
+        } else {
+            change.pass();
         }
     }
 }

@@ -156,7 +156,7 @@ impl<'k> Roster<'k> {
         ensures allowed { OnOk result (HasGroup self.now pid.0) }
         ensures fault { IfErr result (λ fault. fault ≡ NoProc) }
         ensures refused { OnErr result
-            (poster.old.words ≡ self.now.words → ¬ HasGroup self.now pid.0) }
+            ((procs_of poster.old.words < procs_of self.now.words) ⊎ ¬ HasGroup self.now pid.0) }
         ensures same { OnErr result (poster.new ≡ poster.old) }
 
         // Otherwise the notes are pending at each process of the group.

@@ -3,6 +3,7 @@
 ghost use Rattle.kernel_lock.specs.Seats.{IsSeatOf};
 
 use super::{Attempt, Taken, Waiters};
+use crate::steps::FREE;
 use crate::tests::{Counter, open};
 use crate::{LockSeat, Locked, Opened};
 use std::hint::spin_loop;
@@ -53,6 +54,7 @@ fn fall_asleep<R: Wait>(rt: &R, waiters: &Waiters, signs: &Signs) -> bool {
     let announced = waiters.announce();
     signs.announced.store(1, SeqCst);
     if signs.over.load(SeqCst) > 0 {
+        announced.free(FREE);
         return false;
     }
     let attempt = waiters.sleep(rt, Taken::after(announced, 1), Attempt::new());
@@ -121,7 +123,7 @@ fn mark_after_calls<R: Wait>(rt: &R, lock: &Locked<Counter>, seat: &mut LockSeat
 fn a_call_that_nobody_waits_for_wakes_nobody(rt: HostRuntime) {
     let Opened { lock, mut seat } = open(&rt, rt.alloc());
     assert_eq!(rt; mark_after_calls(&rt, &lock, &mut seat), 0);
-    lock.waiters.announce();
+    lock.waiters.announce().free(FREE);
     assert_eq!(rt; mark_after_calls(&rt, &lock, &mut seat), 2);
     assert_eq!(rt; lock.close(&rt, seat).sum, 4);
 }
@@ -148,7 +150,9 @@ fn sleeps_twice<R: Wait>(rt: &R, lock: &Locked<Counter>, seat: &mut LockSeat<Cou
     let second = lock.waiters.announce();
     lock.apply(rt, seat, 1);
     // This release was no answer to the next mark.
-    let is_another = lock.waiters.announce() != first;
+    let third = lock.waiters.announce();
+    let is_another = third.mark != first.mark;
+    third.free(FREE);
     let attempt = lock
         .waiters
         .sleep(rt, Taken::after(first, 1), Attempt::new());
