@@ -9,7 +9,7 @@ use Rattle.sync_base.specs.NoteSet.{no_notes}
 use Rattle.sleep_core.specs.Runs.{Entry}
 use Rattle.rendez_words.specs.declared.states.Done.{Done}
 use Rattle.rendez_words.specs.declared.words.Words.{Words}
-use Rattle.rendez_words.specs.Process.{Process, PidsLeft}
+use Rattle.rendez_words.specs.Process.{Process, PidsLeft, TableId}
 use Rattle.rendez_words.specs.Steps.{raises}
 use Rattle.rendez_words.specs.Words.{table_of, procs_of, rendez_of, IsProcessOf, ArePidsOf}
 use Rattle.sleep_wakeup.specs.declared.kernel.Start.{Start}
@@ -57,6 +57,16 @@ module _ (words : Words) where
   the_first_is_of_its_words : (others : Words) → others ≢ words
       → ¬ IsFirst words (running others 0 [])
   the_first_is_of_its_words others other first = other first.words_are
+
+  the_first_is_at_the_table_of_its_words : (table : TableId) → table ≢ table_of words
+      → ¬ IsFirst words
+          (record { words = words; process = record { table = table; pid = 0; trace = [] } })
+  the_first_is_at_the_table_of_its_words table other first = other first.table
+
+  a_new_rosters_pids_are_at_the_table_of_its_words : (table : TableId) → table ≢ table_of words
+      → ¬ HasAllLeft words
+          (record (left words 1 0 first_group) { pids = record { table = table; next = 1 } })
+  a_new_rosters_pids_are_at_the_table_of_its_words table other all = other all.table
 
   a_new_roster_gave_no_pid : ¬ HasAllLeft words (left words 2 0 first_group)
   a_new_roster_gave_no_pid all = let pids = all.pids in omega (arith, pids)
