@@ -7,8 +7,10 @@
 ghost use Rattle.std.specs.Prelude.{◌≡◌, ◌≢◌, ◌==◌, ◌+◌, ◌%◌, ◌^◌, true, false, IfSome, IfNone};
 ghost use Rattle.kernel_lock.specs.declared.view.Stage.TheVariants.{Outside};
 
+use crate::locked::Locked;
 use crate::object::Object;
 use crate::rule::Stepper;
+use crate::steps::FREE;
 use std::sync::Wait;
 use std::sync::atomic::AtomicU64;
 use std::sync::atomic::Ordering::SeqCst;
@@ -34,12 +36,19 @@ pub(crate) struct Announced {
 }
 
 impl Announced {
-    /// The thread doesn't sleep: this is the word of the lock, as it was found after the
-    /// announcement. The mark stays, and may cost a release a system call.
-    pub(crate) fn free(self, _word: u64)
-        requires { _word ≡ 0 }
+    ghost use Rattle.kernel_lock.specs.Steppers.{IsStepperOf, IsSameStepper};
+
+    /// Looks at the lock, after the announcement.
+    pub(crate) fn look<O: Object>(self, lock: &Locked<O>, stepper: &mut Stepper<O>) -> Looked
+        requires { IsStepperOf lock.now stepper.old }
+        ensures stepper { IsSameStepper stepper.old stepper.new }
+        ensures same { stepper.new.me ≡ stepper.old.me }
     {
-        let Announced { mark: _ } = self;
+        let word = lock.poll(stepper);
+        Looked {
+            announced: self,
+            word,
+        }
     }
 
     // The thread has slept and has the lock: the mark is for others.
@@ -52,19 +61,41 @@ impl Announced {
     }
 }
 
+/// The word of the lock, as it was found after the announcement. `free` spends it where the lock
+/// was free, and else `taken`.
+#[must_use]
+pub(crate) struct Looked {
+    announced: Announced,
+    word: u64,
+}
+
+impl Looked {
+    pub(crate) fn is_free(&self) -> bool
+        ensures { result ≡ (self.now.word == 0) }
+    {
+        self.word == FREE
+    }
+
+    /// The thread doesn't sleep. The mark stays, and may cost a release a system call.
+    pub(crate) fn free(self)
+        requires { self.word ≡ 0 }
+    {
+        let Looked { announced, word: _ } = self;
+        let Announced { mark: _ } = announced;
+    }
+
+    pub(crate) fn taken(self) -> Taken
+        requires { self.word ≢ 0 }
+    {
+        let Looked { announced, word: _ } = self;
+        Taken { announced }
+    }
+}
+
 /// The lock was found taken after the announcement. `sleep` spends it.
 #[must_use]
 pub(crate) struct Taken {
     announced: Announced,
-}
-
-impl Taken {
-    /// The word of the lock, as it was found after the announcement.
-    pub(crate) fn after(announced: Announced, _word: u64) -> Taken
-        requires { _word ≢ 0 }
-    {
-        Taken { announced }
-    }
 }
 
 /// A thread that has slept, and has the lock, has set the mark again.

@@ -8,7 +8,7 @@ use crate::object::Object;
 use crate::plays::Made;
 use crate::rule::Stepper;
 use crate::steps::FREE;
-use crate::waiters::{Announced, Attempt, GivenBack, Marked, Taken};
+use crate::waiters::{Attempt, GivenBack, Marked};
 use std::hint::spin_loop;
 use std::sync::Wait;
 
@@ -74,25 +74,12 @@ impl<O: Object> Locked<O> {
         ensures same { stepper.new.me ≡ stepper.old.me }
         ensures slept { attempt.slept ≡ true → result.slept ≡ true }
     {
-        let announced = self.waiters.announce();
-        match self.poll_again(stepper, announced) {
-            Some(taken) => self.waiters.sleep(rt, taken, attempt),
-            None => attempt,
+        let looked = self.waiters.announce().look(self, stepper);
+        if looked.is_free() {
+            looked.free();
+            return attempt;
         }
-    }
-
-    // Looks at the lock after an announcement: a thread may sleep where it is still taken.
-    fn poll_again(&self, stepper: &mut Stepper<O>, announced: Announced) -> Option<Taken>
-        requires { IsStepperOf self.now stepper.old }
-        ensures stepper { IsSameStepper stepper.old stepper.new }
-        ensures same { stepper.new.me ≡ stepper.old.me }
-    {
-        let found = self.poll(stepper);
-        if found == FREE {
-            announced.free(found);
-            return None;
-        }
-        Some(Taken::after(announced, found))
+        self.waiters.sleep(rt, looked.taken(), attempt)
     }
 
     /// Gives the lock back, and wakes a thread that waits for it.

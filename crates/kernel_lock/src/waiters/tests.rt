@@ -2,7 +2,7 @@
 //! by itself, also where a wake is lost, but for two that sleep by hand.
 ghost use Rattle.kernel_lock.specs.Seats.{IsSeatOf};
 
-use super::{Attempt, Taken, Waiters};
+use super::{Announced, Attempt, Looked, Taken, Waiters};
 use crate::steps::FREE;
 use crate::tests::{Counter, open};
 use crate::{LockSeat, Locked, Opened};
@@ -49,15 +49,27 @@ fn let_it_park() {
     }
 }
 
+// As if the lock had been found free after the announcement.
+fn found_free(announced: Announced) {
+    let word = FREE;
+    Looked { announced, word }.free();
+}
+
+// As if it had been found taken.
+fn found_taken(announced: Announced) -> Taken {
+    let word = 1;
+    Looked { announced, word }.taken()
+}
+
 // Sleeps as a thread does that found the lock taken. Says whether it slept.
 fn fall_asleep<R: Wait>(rt: &R, waiters: &Waiters, signs: &Signs) -> bool {
     let announced = waiters.announce();
     signs.announced.store(1, SeqCst);
     if signs.over.load(SeqCst) > 0 {
-        announced.free(FREE);
+        found_free(announced);
         return false;
     }
-    let attempt = waiters.sleep(rt, Taken::after(announced, 1), Attempt::new());
+    let attempt = waiters.sleep(rt, found_taken(announced), Attempt::new());
     signs.woken.store(1, SeqCst);
     waiters.pass_on(attempt).is_some()
 }
@@ -123,7 +135,7 @@ fn mark_after_calls<R: Wait>(rt: &R, lock: &Locked<Counter>, seat: &mut LockSeat
 fn a_call_that_nobody_waits_for_wakes_nobody(rt: HostRuntime) {
     let Opened { lock, mut seat } = open(&rt, rt.alloc());
     assert_eq!(rt; mark_after_calls(&rt, &lock, &mut seat), 0);
-    lock.waiters.announce().free(FREE);
+    found_free(lock.waiters.announce());
     assert_eq!(rt; mark_after_calls(&rt, &lock, &mut seat), 2);
     assert_eq!(rt; lock.close(&rt, seat).sum, 4);
 }
@@ -152,11 +164,9 @@ fn sleeps_twice<R: Wait>(rt: &R, lock: &Locked<Counter>, seat: &mut LockSeat<Cou
     // This release was no answer to the next mark.
     let third = lock.waiters.announce();
     let is_another = third.mark != first.mark;
-    third.free(FREE);
-    let attempt = lock
-        .waiters
-        .sleep(rt, Taken::after(first, 1), Attempt::new());
-    let attempt = lock.waiters.sleep(rt, Taken::after(second, 1), attempt);
+    found_free(third);
+    let attempt = lock.waiters.sleep(rt, found_taken(first), Attempt::new());
+    let attempt = lock.waiters.sleep(rt, found_taken(second), attempt);
     lock.waiters.pass_on(attempt).is_some() && is_another
 }
 
