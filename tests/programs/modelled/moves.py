@@ -227,6 +227,59 @@ def wake_in_vain(maker):
         maker.tell_acted(actor, count)
 
 
+def wait_in_vain_until_a_moment(maker):
+    """A call until a moment that has to wait and is woken in vain, up to three times; then a tick, a note or what it waits for ends it,
+    and no later tick finds its timer. Right behind it comes another such call of its process, whose moment is its own."""
+    dice = maker.dice
+    callers = [it for it in maker.timed() if it.number < 1024]
+    if not callers:
+        return
+    actor = dice.choice(callers)
+    for _ in range(dice.choice([1, 2, 2, 3])):
+        words = maker.timed_call(actor)
+        moment = min(int(words[1]) + int(words[2]), 2**64 - 1)
+        leave_nothing(maker, actor, words)
+        lines = dice.choice([f"at 3 0 tick {moment}", f"at 3 0 note {actor.proc.pid} {maker.kinds()}"])
+        is_kept = actor.role in ("holder", "guest") and words[0] != "sleep_within" and dice.random() < 0.25
+        count = maker.keep_lines([lines]) if is_kept else 0
+        maker.make_call(actor, words)
+        for _ in range(dice.choice([0, 1, 1, 1, 2, 3])):
+            if actor.run and actor.proc.posted_in() is not None:
+                maker.tell(f"0 wakeup {actor.proc.posted_in()} 0")
+        if actor.run:
+            end_at_a_moment(maker, actor, words, moment)
+        if actor.run or actor.is_gone:
+            return
+        if count:
+            maker.tell_acted(actor, count)
+        maker.tell(f"0 tick {moment}")
+
+
+def leave_nothing(maker, actor, words):
+    """Takes what the call would find at once: units, or room for a write."""
+    if words[0] == "acquire_within":
+        for _ in range(min(actor.thing.value, 4)):
+            maker.make_call(actor, ["try_acquire"])
+    if words[0] == "write_within" and not actor.thing.hung:
+        for _ in range(actor.thing.limit - len(actor.thing.blocks)):
+            maker.make_call(actor, ["write", "a"])
+
+
+def end_at_a_moment(maker, actor, words, moment):
+    """Ends a call until this moment by a tick, mostly, or by a note or by what it waits for."""
+    dice = maker.dice
+    others = [it for it in maker.idle() if it.thing is actor.thing and it.role in ("holder", "guest", "reader", "writer")]
+    how = dice.random()
+    if how < 0.3 and others:
+        other = dice.choice(others)
+        return maker.make_call(other, maker.answering(other, words))
+    if how < 0.5:
+        return maker.tell(f"0 note {actor.proc.pid} {maker.kinds()}")
+    if how < 0.7:
+        maker.tell(f"0 tick {max(0, moment - 1)}")
+    return maker.tell(f"0 tick {moment}") if actor.run else None
+
+
 def move_to_a_space(maker):
     """An rfork of a guest, and calls with one tag in the spaces that there are then."""
     dice = maker.dice
@@ -271,7 +324,8 @@ def raise_a_level(maker):
 PIPES, UNITS, TAGS = {"reader"}, {"holder"}, {"guest"}
 # Each with how often it is made, and the roles of which it needs one.
 MOVES = [(2, fill_a_pipe, PIPES), (3, pass_empty_writes, PIPES), (1, send_whole_blocks, PIPES), (1, hang_up_and_go_on, PIPES),
-         (1, meet_a_deadline, {"plain", "reader"}), (2, meet_a_deadline, UNITS | TAGS), (1, note_a_group, {"zero"}), (2, line_up, UNITS),
+         (1, meet_a_deadline, {"plain", "reader"}), (2, meet_a_deadline, UNITS | TAGS),
+         (2, wait_in_vain_until_a_moment, {"plain", "reader", "writer", "holder", "guest"}), (1, note_a_group, {"zero"}), (2, line_up, UNITS),
          (2, grant_at_a_point, UNITS | TAGS), (1, grant_at_a_point, UNITS), (1, wake_in_vain, UNITS | TAGS), (2, move_to_a_space, TAGS),
          (1, raise_a_level, {"plain", "reader"}), (1, wake_at_a_point, {"plain", "reader"})]
 
