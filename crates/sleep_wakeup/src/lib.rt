@@ -15,7 +15,7 @@ pub mod status;
 mod waking;
 
 pub use kernel::{Kernel, Opened, Start, Started};
-pub use proc::Proc;
+pub use proc::{Proc, Steps};
 pub use rendez_words::Done;
 pub use roster::Roster;
 pub use status::{Look, ProcStatus, RendezStatus};

@@ -1,7 +1,12 @@
 //! A process.
 use rendez_words::{Seat, Words};
 use std::marker::Model;
+use std::snapshot::Snapshot;
 use sync_base::Pid;
+
+/// The steps that a process had made at some moment, as contracts alone see them. They take no
+/// memory.
+pub type Steps = Snapshot<Option<Seat>>;
 
 /// A process of a kernel. One thread has it at a time, and may hand it to another.
 #[derive(Drop)]
@@ -26,7 +31,7 @@ impl<'k> Model for Proc<'k> {
 }
 
 impl<'k> Proc<'k> {
-    ghost use Rattle.std.specs.Prelude.{◌≡◌};
+    ghost use Rattle.std.specs.Prelude.{◌≡◌, Some};
     ghost use Rattle.rendez_words.specs.Words.{IsProcessOf, procs_of, rendez_of};
 
     pub(crate) fn new(words: &'k Words, seat: Seat, pid: Pid) -> Proc<'k>
@@ -62,6 +67,13 @@ impl<'k> Proc<'k> {
         ensures { result ≡ rendez_of self.now.words }
     {
         self.words.rendez_count()
+    }
+
+    /// Its steps up to now. This function is there for the specification, and does nothing.
+    pub fn steps(&self) -> Steps
+        ensures { result.value ≡ Some self.now.process }
+    {
+        Snapshot::of(&self.seat)
     }
 
     /// Its steps are those of a process in a run of the core, so the laws of the core hold of them.
