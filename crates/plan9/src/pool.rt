@@ -294,9 +294,8 @@ impl<'s, 'k> Holder<'s, 'k> {
     ghost use Rattle.semaphore.specs.Acquiring.{Semacquires};
     ghost use Rattle.semaphore.specs.Releasing.{Releases};
     ghost use Rattle.semaphore.specs.Seats.{rendez_at};
-    ghost use Rattle.timer_list.specs.Timers.{deadline_of};
-    ghost use Rattle.semaphore.specs.Timing.{TimedAcquire};
-    ghost use Rattle.plan9.specs.Watches.{IsSameWatch, watched_point};
+    ghost use Rattle.semaphore.specs.Timing.{AcquiresBy};
+    ghost use Rattle.plan9.specs.Watches.{IsSameWatch, until, watched_point};
     ghost use Rattle.plan9.specs.Refusals.{ComesBack};
     ghost use Rattle.plan9.specs.Pools.{
       ForksHolder,
@@ -389,7 +388,7 @@ impl<'s, 'k> Holder<'s, 'k> {
     ) -> Result<(), Fault>
         ensures same { IsSameHolder self.old self.new }
         ensures watch { IsSameWatch watch.old watch.new }
-        ensures called { TimedAcquire self.old.sema watch.old.timers (deadline_of now ms)
+        ensures called { AcquiresBy (until watch.old now ms) self.old.sema
             (watched_point self.old watch.old) result (watched_point self.new watch.new) }
     {
         self.acquire_within_probed(rt, watch, now, ms, &mut NoProbe)
@@ -407,7 +406,7 @@ impl<'s, 'k> Holder<'s, 'k> {
     ) -> Result<(), Fault>
         ensures same { IsSameHolder self.old self.new }
         ensures watch { IsSameWatch watch.old watch.new }
-        ensures called { TimedAcquire self.old.sema watch.old.timers (deadline_of now ms)
+        ensures called { AcquiresBy (until watch.old now ms) self.old.sema
             (watched_point self.old watch.old) result (watched_point self.new watch.new) }
     {
         self.sema.tsemacquire_probed(
