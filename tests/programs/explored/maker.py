@@ -117,15 +117,15 @@ def random_aim(dice, branches, has_clock):
     return (dice.choice(calls[aim]), aim) if aim in answers else aim
 
 
-def random_program(kind, seed):
-    """The random program of this kind, `core`, `devices` or `locks`, with this seed: the first that a search to its end takes. One
+def random_program(kind, seed, limit=LIMIT):
+    """The random program of this kind, `core`, `devices` or `locks`, with this seed: the first with at most so many states. One
     with devices is the first of ten that comes to what was drawn before, or else the last of these ten: so each comes often."""
     dice = random.Random(f"{kind} {seed}")
     branches, has_clock, left = dice.random() < 0.35, kind == "devices" and dice.random() < 0.35, 10
     aim = random_aim(dice, branches, has_clock) if kind == "devices" else None
     while True:
         program = random_locks(dice) if kind == "locks" else random_calls(dice, kind, branches, has_clock)
-        found = any(program.calls) and search(Machine(program), LIMIT)
+        found = any(program.calls) and search(Machine(program), limit)
         left -= bool(found)
         if found and (aim is None or aim in found.branched | found.came_to or left == 0):
             return program, found

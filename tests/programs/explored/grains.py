@@ -1,0 +1,85 @@
+"""The machine of events and the machine of calls beside each other: what fails where the two differ."""
+import collections
+
+from explored.agreement import fail
+from explored.calls import CallMachine
+from explored.machine import Machine
+from explored.maker import random_program
+from explored.program import EXPIRED, TIMED, bits_of, without_deadline
+from explored.searching import LIMIT, search
+
+# How many states a program has at most by events: those with few steps have as many kinds of steps, and are quickly searched.
+FEWER = 2000
+
+
+def has_two_readers(program):
+    """Whether two processes read one direction, which the library's types exclude, and the machine of calls takes not."""
+    readers = collections.defaultdict(set)
+    for pid, row in enumerate(program.calls):
+        for verb, *words in map(without_deadline, row):
+            if verb == "read":
+                readers[words[0]].add(pid)
+    return any(len(pids) > 1 for pids in readers.values())
+
+
+def posts_expired(program):
+    """Whether a `note` posts `expired` to a process that has calls with a deadline. By events a note that comes before what a call
+    waits for ends the wait. By calls it may go on all the same, and if a tick took its timer by then, its wait for the note of the
+    tick takes this one too."""
+    timed = {pid for pid, row in enumerate(program.calls) for words in row if words[0] in TIMED}
+    return any(words[0] == "note" and words[1] in timed and bits_of(words[2]) & EXPIRED for row in program.calls for words in row)
+
+
+def shape_of_events(machine, state):
+    """What both machines have of a state in which no process can make a step."""
+    posted, level, flags, procs, (members, semas, pipes, timers) = state
+    own = machine.program.own
+    return (posted[:own], level[:own], flags, tuple(over for over, _, _ in procs),
+            tuple(tag if stage == "waiting" else None for _, stage, tag, _ in members),
+            tuple((value, waiters) for value, waiters, *_ in semas),
+            tuple((tuple((size, None) for size, _ in writes), rest, hung) for _, writes, rest, hung in pipes), timers)
+
+
+def shape_of_calls(state):
+    posted, level, flags, procs, devices = state
+    return posted, level, flags, tuple(over for over, _, _ in procs), *devices
+
+
+def grains_differ(program, events):
+    """Where the search by calls differs from this one by events, or None. Also how many states it has."""
+    machine = Machine(program)
+    calls = search(CallMachine(program), events.states + LIMIT)
+    ours, others = {shape_of_calls(state) for state in calls.last}, {shape_of_events(machine, state) for state in events.last}
+    if not (others <= ours if posts_expired(program) else others == ours):
+        return f"so many last states are those of one machine only: of events {len(others - ours)}, of calls {len(ours - others)}", 0
+    if ours == others and (calls.verdict, calls.ends) != (events.verdict, events.ends):
+        return f"by events it is {events.verdict}, and by calls {calls.verdict}", 0
+    if events.branched - calls.branched or ours == others and calls.branched != events.branched:
+        return f"by one machine only these answers lead past a call: {events.branched ^ calls.branched}", 0
+    return None, calls.states
+
+
+def smallest(program):
+    """A program that differs too, and none of those that lack a call, a device or a process more."""
+    for candidate in program.smaller():
+        found = candidate and not has_two_readers(candidate) and search(Machine(candidate), LIMIT)
+        if found and grains_differ(candidate, found)[0]:
+            return smallest(candidate)
+    return program
+
+
+def grains_agree(kinds, seeds):
+    """Compares the random programs of these kinds with these seeds."""
+    taken = collections.Counter()
+    for kind, seed in ((kind, seed) for kind in kinds for seed in seeds):
+        program, found = random_program(kind, seed, FEWER)
+        if has_two_readers(program):
+            taken["refused"] += 1
+            continue
+        why, states = grains_differ(program, found)
+        if why:
+            small = smallest(program)
+            fail(f"{kind} {seed}: {grains_differ(small, search(Machine(small), LIMIT))[0]}, of this program:\n{small.script()}")
+        taken.update({"programs": 1, found.verdict: 1, "none ends": not found.ends, "last": len(found.last), "events": found.states,
+                      "calls": states, "expired": posts_expired(program)})
+    return taken
