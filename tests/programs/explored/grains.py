@@ -3,9 +3,10 @@ import collections
 
 from explored.agreement import fail
 from explored.calls import CallMachine
+from explored.classics import STATES
 from explored.machine import Machine
 from explored.maker import random_program
-from explored.program import EXPIRED, TIMED, bits_of, without_deadline
+from explored.program import EXPIRED, TIMED, bits_of, program_of, without_deadline
 from explored.searching import LIMIT, search
 
 # How many states a program has at most by events: those with few steps have as many kinds of steps, and are quickly searched.
@@ -17,7 +18,7 @@ def has_two_readers(program):
     readers = collections.defaultdict(set)
     for pid, row in enumerate(program.calls):
         for verb, *words in map(without_deadline, row):
-            if verb == "read":
+            if verb in ("read", "try_read"):
                 readers[words[0]].add(pid)
     return any(len(pids) > 1 for pids in readers.values())
 
@@ -34,29 +35,40 @@ def shape_of_events(machine, state):
     """What both machines have of a state in which no process can make a step."""
     posted, level, flags, procs, (members, semas, pipes, timers) = state
     own = machine.program.own
-    return (posted[:own], level[:own], flags, tuple(over for over, _, _ in procs),
+    return (posted[:own], level[:own], flags, sources(machine, procs),
             tuple(tag if stage == "waiting" else None for _, stage, tag, _ in members),
             tuple((value, waiters) for value, waiters, *_ in semas),
             tuple((tuple((size, None) for size, _ in writes), rest, hung) for _, writes, rest, hung in pipes), timers)
 
 
-def shape_of_calls(state):
+def shape_of_calls(machine, state):
     posted, level, flags, procs, devices = state
-    return posted, level, flags, tuple(over for over, _, _ in procs), *devices
+    return posted, level, flags, sources(machine, procs), *devices
+
+
+def sources(machine, procs):
+    """Where in its lines each process is."""
+    return tuple(machine.program.source(pid, over) for pid, (over, _, _) in enumerate(procs))
+
+
+def found_differ(program, events, calls, written_out=None):
+    """Where the search of a program by calls differs from that by events, or None. The events may have been those of the program with its
+    loops written out."""
+    machine, other = CallMachine(program), Machine(written_out or program)
+    ours, others = {shape_of_calls(machine, state) for state in calls.last}, {shape_of_events(other, state) for state in events.last}
+    if not (others <= ours if posts_expired(program) else others == ours):
+        return f"so many last states are those of one machine only: of events {len(others - ours)}, of calls {len(ours - others)}"
+    if events.branched - calls.branched or ours == others and calls.branched != events.branched:
+        return f"by one machine only these answers lead past a call: {events.branched ^ calls.branched}"
+    said = [(found.nevers.keys(), found.stuck is None, found.ends, found.caught is None) for found in (events, calls)]
+    if ours == others and said[0] != said[1]:
+        return f"by events it is {events.verdict}, and by calls {calls.verdict}"
 
 
 def grains_differ(program, events):
     """Where the search by calls differs from this one by events, or None. Also how many states it has."""
-    machine = Machine(program)
     calls = search(CallMachine(program), events.states + LIMIT)
-    ours, others = {shape_of_calls(state) for state in calls.last}, {shape_of_events(machine, state) for state in events.last}
-    if not (others <= ours if posts_expired(program) else others == ours):
-        return f"so many last states are those of one machine only: of events {len(others - ours)}, of calls {len(ours - others)}", 0
-    if ours == others and (calls.verdict, calls.ends) != (events.verdict, events.ends):
-        return f"by events it is {events.verdict}, and by calls {calls.verdict}", 0
-    if events.branched - calls.branched or ours == others and calls.branched != events.branched:
-        return f"by one machine only these answers lead past a call: {events.branched ^ calls.branched}", 0
-    return None, calls.states
+    return found_differ(program, events, calls), calls.states
 
 
 def smallest(program):
@@ -66,6 +78,14 @@ def smallest(program):
         if found and grains_differ(candidate, found)[0]:
             return smallest(candidate)
     return program
+
+
+def has_its_states():
+    """Some programs have by calls as many states as is known."""
+    for lines, states in STATES:
+        found = search(CallMachine(program_of("\n".join(lines))), LIMIT)
+        if (found.states, found.verdict) != (states, "ends"):
+            fail(f"by calls it has {found.states} states and {found.verdict}, of this program:\n" + "\n".join(lines))
 
 
 def grains_agree(kinds, seeds):

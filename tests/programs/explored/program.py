@@ -35,7 +35,8 @@ def deadline(words):
 
 # What the first word of a line has after it that may have a name: as the next word, or after the deadline.
 NAMED = {"process": "process", "space": "space", "sema": "sema", "pipe": "pipe", "sleep": "rendez", "wakeup": "rendez",
-         "note": "process", "acquire": "sema", "try": "sema", "release": "sema", "write": "pipe", "read": "pipe", "hangup": "pipe"}
+         "note": "process", "acquire": "sema", "try": "sema", "release": "sema", "write": "pipe", "read": "pipe", "hangup": "pipe",
+         "try_read": "pipe"}
 NAMED |= {timed: NAMED[verb] for timed, verb in TIMED.items() if verb in NAMED}
 # The lines that may give a new name.
 NAMES = {"process", "space", "sema", "pipe", "sleep", "wakeup", "sleep_within"}
@@ -61,13 +62,15 @@ class Program:
     """`devices` are the lines after the first, and `calls` those of each process, all as their words, with numbers. `names` has
     the names of each kind that has them, in the order of the numbers. `repeats` has for each process the calls that its lines say
     by `repeat`, in their order: where these begin, how many they are the first time, and how often they stand there. `branches` has
-    for each process its lines `on`, in their order.
+    for each process its lines `on`, in their order. `following` has the call after a call where it is not the next one, `looped` the
+    calls that stand in loops (explored/blocks.py), each with its process, and `heads` those that are the first of a round.
 
     After the Rendez of the first line come those of the members, those of all seats, and for each pipe that of its reader and
     those of its writers, one for each process."""
 
     def __init__(self, rendez, devices, calls, names=(), repeats=(), branches=()):
         self.own, self.devices, self.calls, self.names, self.repeats = rendez, devices, calls, dict(names), dict(repeats)
+        self.following, self.looped, self.heads = {}, set(), set()
         self.branches = {pid: its for pid, its in dict(branches).items() if its}
         self.members = sum(words[1] for words in devices if words[0] == "space")
         self.semas = [words for words in devices if words[0] == "sema"]
@@ -79,6 +82,10 @@ class Program:
             place += sema[2]
         self.readers = [place + number * (1 + len(calls)) for number in range(len(self.pipes))]
         self.rendez = place + len(self.pipes) * (1 + len(calls))
+
+    def source(self, pid, over):
+        """What of the lines of a process the call with this number is."""
+        return over
 
     def say(self, kind, number, before=""):
         """The name, or else the number, after these words."""
