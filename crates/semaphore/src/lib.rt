@@ -17,3 +17,6 @@ mod wait_queue;
 pub use acquiring::Semacquired;
 pub use sema::{OpenedSema, Sema, SemaSeat};
 pub use sema_object::{SemaCall, SemaObject, SemaReply, Stage};
+
+// Timers, whose `tick` ends a wait that has a deadline.
+pub use timer_list::{OpenedTimers, TimerObject, TimerSeat, Timers};
