@@ -96,11 +96,11 @@ def differs(folder, text, times):
 
 
 def answers_otherwise(mistake, made, times):
-    """Whether its size is answered otherwise, counted as so many times, and what was said where it is not."""
+    """Whether its size is answered otherwise or not at all, counted as so many times, and what was said where it is not."""
     with tempfile.TemporaryDirectory() as cases:
         folder = f"{made}/crates/{write_case(mistake, cases)}"
         ran = run(["rt", "try", "--cases", cases], cwd=folder)
-    if ran.returncode == OTHERWISE:
+    if ran.returncode in (OTHERWISE, NOT_ENDED):
         return times, ""
     return 0, f"status {ran.returncode}\n{ran.stdout[-2000:]}{ran.stderr[-2000:]}"
 

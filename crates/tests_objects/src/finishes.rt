@@ -1,5 +1,5 @@
-//! The ends of a direction that are given back: what was written and read before, and what the
-//! direction still held then. Where memory is refused it is asked for once more.
+//! The ends of a direction that are given back: what was written and read before, in whose memory,
+//! and what the direction still held then. Where memory is refused it is asked for once more.
 ghost use Rattle.std.specs.Prelude.{◌∷◌, [], IfOk};
 ghost use Rattle.pipe_dev.specs.Ends.{AreAllEnds};
 ghost use Rattle.pipe_dev.specs.Openings.{IsStartOf as IsPipeStart};
@@ -51,6 +51,9 @@ enum Deed {
     IsRefused(Bytes),
     /// A read with room for so many bytes, and what it gets.
     Reads(usize, Bytes),
+    /// A read of a block with a block that has room for so many bytes: what it gets, and how many
+    /// bytes the block has room for that it gets. The numbers tell the blocks apart.
+    ReadsBlock(usize, Bytes, usize),
     /// A read that finds nothing yet, and one that finds the end.
     FindsNothing,
     Ends,
@@ -59,7 +62,7 @@ enum Deed {
 }
 
 use Bytes::{Run, These};
-use Deed::{FindsNothing, IsRefused, ReaderHangsUp, Reads, WriterHangsUp, Writes};
+use Deed::{FindsNothing, IsRefused, ReaderHangsUp, Reads, ReadsBlock, WriterHangsUp, Writes};
 
 /// What a direction still held: whether it was hung up, what was left of a write that was begun,
 /// and each write that no read had begun, with its writer.
@@ -95,6 +98,7 @@ impl Line<'_, '_> {
             Writes(bytes, number) => self.writes(rt, alloc, bytes) == Some(Ok(number)),
             IsRefused(bytes) => self.writes(rt, alloc, bytes) == Some(Err(Fault::Hungup)),
             Reads(room, bytes) => self.gets(rt, alloc, room, bytes),
+            ReadsBlock(room, bytes, had) => self.gets_block(rt, alloc, room, bytes, had),
             FindsNothing => matches!(self.tries(), Ok(TryAnswer::NotYet)),
             Deed::Ends => matches!(self.tries(), Ok(TryAnswer::End)),
             ReaderHangsUp => {
@@ -153,6 +157,36 @@ impl Line<'_, '_> {
     #[tactic(auto, using(crate::proofs::EndLemmas::still_read))]
     fn read_once<R: Wait>(&mut self, rt: &R, buffer: &mut [u8]) -> Result<ReadAnswer, Fault> {
         self.read.read(rt, &mut self.proc, buffer)
+    }
+
+    // Whether a read with a block of so much room gets just these bytes, in a block that has room
+    // for so many.
+    fn gets_block<R: Wait>(
+        &mut self,
+        rt: &R,
+        alloc: Global,
+        room: usize,
+        bytes: Bytes,
+        had: usize,
+    ) -> bool {
+        let made = match Vec::with_capacity(alloc, room) {
+            Err(_) => Vec::with_capacity(alloc, room),
+            made => made,
+        };
+        let Ok(mut block) = made else {
+            return false;
+        };
+        let is_got = self.read_block_once(rt, &mut block);
+        is_got && bytes.are(block.as_slice()) && block.capacity() == had
+    }
+
+    // A read of a block, which takes no memory. Whether it got one.
+    #[tactic(auto, using(crate::proofs::EndLemmas::still_read))]
+    fn read_block_once<R: Wait>(&mut self, rt: &R, block: &mut Vec<u8>) -> bool {
+        match self.read.read_block(rt, &mut self.proc, block) {
+            Ok(ReadAnswer::Got(count)) => count == block.len(),
+            _ => false,
+        }
     }
 
     // A read of one byte that doesn't wait.
@@ -406,6 +440,57 @@ const LONG_RUNS: Life = Life {
         writes: &[(0, b"yyyyyyyyyyyyyyyyyyyyyyyyyyyyyyyyy")],
     },
 };
+
+// Each block that is read is the one that was written: it has just the room that its write took,
+// and not that of the reader's. What the reader's had is filled again two writes later.
+const BLOCKS: Life = Life {
+    mode: Mode::Message,
+    limit: 1,
+    deeds: &[
+        Writes(These(b"abcdef"), 1),
+        ReadsBlock(100, These(b"abcdef"), 6),
+        Writes(Run(50, b'x'), 2),
+        ReadsBlock(200, Run(50, b'x'), 50),
+        Writes(These(b"g"), 3),
+        ReadsBlock(0, These(b"g"), 1),
+        Writes(These(b"h"), 4),
+        ReadsBlock(0, These(b"h"), 100),
+        Writes(Run(65_536, b'i'), 5),
+        ReadsBlock(7, Run(65_536, b'i'), 65_536),
+    ],
+    left: Left {
+        hung: false,
+        rest: b"",
+        writes: &[],
+    },
+};
+
+// The rest of a write is read in the write's own block too.
+const RESTS_OF_BLOCKS: Life = Life {
+    mode: Mode::Stream,
+    limit: 2,
+    deeds: &[
+        Writes(These(b"abcdef"), 1),
+        Writes(These(b"gh"), 2),
+        Reads(2, These(b"ab")),
+        ReadsBlock(100, These(b"cdef"), 6),
+        ReadsBlock(0, These(b"gh"), 2),
+    ],
+    left: Left {
+        hung: false,
+        rest: b"",
+        writes: &[],
+    },
+};
+
+const BLOCK_LIVES: [&Life; 2] = [&BLOCKS, &RESTS_OF_BLOCKS];
+
+#[test]
+fn a_block_that_is_read_is_the_one_that_was_written(rt: HostRuntime) {
+    for (at, life) in BLOCK_LIVES.iter().enumerate() {
+        assert!(rt; is_lived(&rt, rt.alloc(), *life), "life {at}");
+    }
+}
 
 const LIVES: [&Life; 7] = [
     &READ_IN_PARTS,

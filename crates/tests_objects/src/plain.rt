@@ -1,7 +1,7 @@
-//! Printed texts, and what a plain pipe holds that was refused memory.
+//! Printed texts, what a plain pipe holds that was refused memory, and the room of a peek.
 use std::alloc::Global;
 use std::process::Abort;
-use sync_base::{Fault, Mode, NoteSet, PlainPipe, ReadAnswer, WriteAnswer};
+use sync_base::{Fault, Mode, NoteSet, PeekAnswer, PlainPipe, ReadAnswer, WriteAnswer};
 
 fn text_is(rt: &impl Abort, alloc: Global, fault: Fault, text: &str) -> bool {
     let found = fault.to_string(alloc).expect(rt, "no memory for a text");
@@ -133,4 +133,32 @@ fn a_stream_that_is_refused_memory_is_as_before(rt: HostRuntime) {
         Step::IsEmpty,
     ];
     take_steps(&rt, &mut pipe, &steps);
+}
+
+// Whether a peek of so many bytes gives these, or is refused where there are none.
+fn shows(pipe: &PlainPipe, room: &mut Vec<u8>, most: u64, bytes: &[u8]) -> bool {
+    match pipe.peek(most, room) {
+        Ok(PeekAnswer::Got(got)) => got == bytes,
+        Ok(_) => false,
+        Err(fault) => fault == Fault::BadCount && bytes.is_empty(),
+    }
+}
+
+// A vector of these bytes.
+fn room_of(rt: &impl Abort, alloc: Global, bytes: &[u8]) -> Vec<u8> {
+    let room = match bytes.to_vec(alloc) {
+        Err(_) => bytes.to_vec(alloc),
+        room => room,
+    };
+    room.expect(rt, "no room")
+}
+
+#[test]
+fn a_peek_of_one_write_leaves_its_room_alone(rt: HostRuntime) {
+    let mut pipe = pipe_of(&rt, rt.alloc(), Mode::Message, 2);
+    take_steps(&rt, &mut pipe, &[Step::Takes(b"abc"), Step::Takes(b"d")]);
+    let mut room = room_of(&rt, rt.alloc(), b"room");
+    let mut is_so = shows(&pipe, &mut room, 8, b"abc");
+    is_so = is_so && shows(&pipe, &mut room, 2, b"ab") && shows(&pipe, &mut room, 0, b"");
+    assert!(rt; is_so && room.as_slice() == b"room".as_slice());
 }
