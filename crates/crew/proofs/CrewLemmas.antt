@@ -8,4 +8,9 @@ use Rattle.crew.specs.Tally.{AreOfOneRun, IsTallyOf}
 pub still_of : (opts : ThreadsOpts) (old new : Tally) → IsTallyOf opts old → AreOfOneRun old new
     → IsTallyOf opts new
 still_of opts old new is same =
-    record { most = same.most ∙ is.most; size = same.size ∙ is.size }
+    record {
+      most = same.most ∙ is.most;
+      writers = same.writers ∙ is.writers;
+      each = same.each ∙ is.each;
+      size = same.size ∙ is.size;
+    }

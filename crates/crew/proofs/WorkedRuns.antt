@@ -1,13 +1,14 @@
 -- What no tally counts, no report says and no writer does: each against one row of a definition.
 use Rattle.std.proofs.Common.{◌≡◌, ◌≢◌, ◌⊎◌, ◌+◌, ℕ, zero, suc, true, false, List, []}
-use Rattle.std.proofs.Common.{◌∷◌, ◌≤◌, length, inl, inr, ap, refl, subst, arith}
+use Rattle.std.proofs.Common.{◌∷◌, ◌≤◌, length, replicate, inl, inr, ap, refl, subst, arith}
 use Rattle.std.specs.Prelude.{Some, Ok, OnOk, slice_get, slice_set, vec_len}
 use Rattle.sync_base.specs.declared.threads_opts.ThreadsOpts.{ThreadsOpts}
 use Rattle.crew.specs.declared.crew.Writer.{Writer}
 use Rattle.crew.specs.declared.opts.Report.{Report}
 use Rattle.crew.specs.declared.tally.Tally.{Tally}
 use Rattle.crew.specs.Message.{message_of}
-use Rattle.crew.specs.Tally.{TakesNext, IsNewTally, CountsNext, ReportsTally}
+use Rattle.crew.specs.Tally.{AreOfOneRun, TakesNext, IsNewTally, IsTallyOf, CountsNext}
+use Rattle.crew.specs.Tally.{ReportsTally}
 use Rattle.crew.specs.Threads.{IsReportOf}
 use Rattle.crew.specs.Writing.{IsReadyWriter, HasEnded}
 
@@ -56,7 +57,45 @@ module _ (old new : Tally) (piece : List ℕ) where
   bytes_not_counted : new.bytes ≡ old.bytes + length piece + 1 → CountsNext old new piece → ⊥
   bytes_not_counted more counts = let bytes = counts.bytes in omega (arith, more, bytes)
 
+module _ (old new : Tally) where
+  -- a count of a run goes on as one of another: of fewer writers, or of more messages of each
+  goes_on_without_a_writer : length new.expected.next.items + 1 ≡ length old.expected.next.items
+      → AreOfOneRun old new → ⊥
+  goes_on_without_a_writer less same = let writers = same.writers in omega (arith, less, writers)
+
+  goes_on_with_more_messages : new.expected.each ≡ old.expected.each + 1 → AreOfOneRun old new → ⊥
+  goes_on_with_more_messages more same = let each = same.each in omega (arith, more, each)
+
+  goes_on_with_longer_messages : new.expected.size ≡ old.expected.size + 1
+      → AreOfOneRun old new → ⊥
+  goes_on_with_longer_messages more same = let size = same.size in omega (arith, more, size)
+
+  goes_on_with_a_message_more_in_all : new.most ≡ old.most + 1 → AreOfOneRun old new → ⊥
+  goes_on_with_a_message_more_in_all more same = let most = same.most in omega (arith, more, most)
+
+module _ (opts : ThreadsOpts) (tally : Tally) where
+  -- a tally of two writers counts for three, or one message more of each, or longer ones
+  counts_for_a_writer_less : length tally.expected.next.items + 1 ≡ opts.writers
+      → IsTallyOf opts tally → ⊥
+  counts_for_a_writer_less less is = let writers = is.writers in omega (arith, less, writers)
+
+  takes_a_message_more_of_each : tally.expected.each ≡ opts.writes + 1 → IsTallyOf opts tally → ⊥
+  takes_a_message_more_of_each more is = let each = is.each in omega (arith, more, each)
+
+  takes_longer_messages : tally.expected.size ≡ opts.size + 1 → IsTallyOf opts tally → ⊥
+  takes_longer_messages more is = let size = is.size in omega (arith, more, size)
+
 module _ (tally : Tally) where
+  -- a new tally begins with the second message of a writer
+  begins_with_the_second : tally.expected.next.items ≡ 1 ∷ [] → IsNewTally tally → ⊥
+  begins_with_the_second second new =
+      absurd (by tally.expected.next.items second new.next)
+    where
+      by : (next : List ℕ) → next ≡ 1 ∷ [] → next ≡ replicate (length next) 0 → ⊥
+      by next is zeros =
+          let e : 1 ∷ [] ≡ 0 ∷ [] = subst (λ (l : List ℕ). l ≡ replicate (length l) 0) is zeros in
+          cc
+
   -- a new tally has counted something
   counted_before : tally.writes ≡ 1 → IsNewTally tally → ⊥
   counted_before one new = let writes = new.writes in omega (arith, one, writes)

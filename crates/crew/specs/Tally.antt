@@ -1,6 +1,6 @@
 -- What the reader of a run on threads expects, and what it has counted.
 use Rattle.std.specs.Prelude.{◌≡◌, ◌+◌, ◌*◌, ◌<◌, ℕ, true, List, length, slice_get, slice_set}
-use Rattle.std.specs.Prelude.{Some}
+use Rattle.std.specs.Prelude.{Some, replicate}
 use Rattle.crew.specs.declared.opts.Report.{Report}
 use Rattle.sync_base.specs.declared.threads_opts.ThreadsOpts.{ThreadsOpts}
 use Rattle.crew.specs.declared.tally.Tally.{Tally}
@@ -16,18 +16,24 @@ pub record TakesNext (each size : ℕ) (old new : List ℕ) (piece : List ℕ) :
   pub whole : piece ≡ message_of size writer number
   pub next : new ≡ slice_set old writer (number + 1)
 
--- it counts what writers with these options write
+-- it counts what writers with these options write: so many writers, each with so many messages of
+-- this size
 pub record IsTallyOf (opts : ThreadsOpts) (tally : Tally) : Type 0 where
   pub most : tally.most ≡ opts.writers * opts.writes
+  pub writers : length tally.expected.next.items ≡ opts.writers
+  pub each : tally.expected.each ≡ opts.writes
   pub size : tally.expected.size ≡ opts.size
 
 -- both count what the same writers write
 pub record AreOfOneRun (old new : Tally) : Type 0 where
   pub most : new.most ≡ old.most
+  pub writers : length new.expected.next.items ≡ length old.expected.next.items
+  pub each : new.expected.each ≡ old.expected.each
   pub size : new.expected.size ≡ old.expected.size
 
--- nothing was counted, and so nothing is out of order
+-- nothing was counted, and so nothing is out of order, and the first message of each writer is next
 pub record IsNewTally (tally : Tally) : Type 0 where
+  pub next : tally.expected.next.items ≡ replicate (length tally.expected.next.items) 0
   pub writes : tally.writes ≡ 0
   pub bytes : tally.bytes ≡ 0
   pub in_order : tally.in_order ≡ true

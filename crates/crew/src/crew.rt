@@ -25,7 +25,8 @@ pub struct Writer<'p> {
     /// How many of its messages were accepted, from the first on.
     pub(crate) done: u64,
     message: Vec<u8>,
-    wrote: Result<(), Fault>,
+    /// Why it stopped, if a write was refused.
+    pub(crate) wrote: Result<(), Fault>,
     ghost head: { HEAD ≤ vec_len message },
     ghost few: { done ≤ writes },
 }
@@ -115,11 +116,6 @@ impl<'p> Writer<'p> {
         end.hangup(&mut proc);
         HungWriter { end }
     }
-
-    /// Why the writer stopped, if a write was refused.
-    pub fn wrote(&self) -> Result<(), Fault> {
-        self.wrote
-    }
 }
 
 /// The reader.
@@ -140,14 +136,15 @@ pub struct Counted<'p> {
     end: ReadEnd<'p>,
     opts: ThreadsOpts,
     tally: Tally,
-    read: Result<(), Fault>,
+    /// Why the reader did not come to the end, if it did not.
+    pub(crate) read: Result<(), Fault>,
     ghost of: { IsTallyOf opts tally },
     ghost ended: { ForOk read (λ _. is_at_end end.account.seen ≡ true) },
 }
 
 impl<'p> Reader<'p> {
     ghost use Rattle.std.specs.Prelude.{◌≡◌, IfOk};
-    ghost use Rattle.crew.specs.Tally.{AreOfOneRun};
+    ghost use Rattle.crew.specs.Tally.{AreOfOneRun, IsNewTally};
     ghost use Rattle.crew.specs.Threads.{AreWithin};
 
     // A reader that has counted nothing.
@@ -159,6 +156,7 @@ impl<'p> Reader<'p> {
     ) -> Result<Reader<'p>, Fault>
         requires { AreWithin opts.now }
         ensures opts { IfOk result (λ reader. reader.opts ≡ opts.now) }
+        ensures empty { IfOk result (λ reader. IsNewTally reader.tally) }
     {
         Ok(Reader {
             proc,
@@ -214,11 +212,6 @@ impl<'p> Counted<'p> {
     ghost use Rattle.crew.specs.Tally.{ReportsTally};
     ghost use Rattle.crew.specs.Threads.{IsReportOf};
 
-    /// Why the reader did not come to the end, if it did not.
-    pub fn read_to_end(&self) -> Result<(), Fault> {
-        self.read
-    }
-
     /// What was read up to the end, or why the reader did not come to the end. `Device` where it
     /// counted for a run with other options.
     pub fn report(&self, opts: &ThreadsOpts) -> Result<Report, Fault>
@@ -244,6 +237,7 @@ pub struct Crew<'p> {
 impl<'p> Crew<'p> {
     ghost use Rattle.std.specs.Prelude.{◌≡◌, All, IfOk};
     ghost use Rattle.block_queue.specs.Seats.{key_of};
+    ghost use Rattle.crew.specs.Tally.{IsNewTally};
     ghost use Rattle.crew.specs.declared.threads.TheConstants.{LIMIT};
     ghost use Rattle.crew.specs.Threads.{AreWithin};
     ghost use Rattle.crew.specs.Writing.{IsReadyWriter};
@@ -266,7 +260,10 @@ impl<'p> Crew<'p> {
         // Each writer has all its messages to write.
         ensures writers { IfOk result (λ crew.
             All (IsReadyWriter opts.now) crew.writers.items) }
+
+        // The reader has counted nothing.
         ensures reader { IfOk result (λ crew. crew.reader.opts ≡ opts.now) }
+        ensures empty { IfOk result (λ crew. IsNewTally crew.reader.tally) }
     {
         let (mut roster, mut proc) = (roster, proc);
         let writers = Crew::writers_at(alloc, opts, &mut roster, &mut proc, writes)?;

@@ -28,6 +28,7 @@ impl Expected {
     fn take_next(&mut self, piece: &[u8]) -> bool
         ensures same { self.new.size ≡ self.old.size }
         ensures each { self.new.each ≡ self.old.each }
+        ensures writers { length self.new.next.items ≡ length self.old.next.items }
         ensures size { result ≡ true → length piece.now ≡ self.old.size }
         ensures next { result ≡ true → TakesNext self.old.each self.old.size
             self.old.next.items self.new.next.items piece.now }

@@ -1,6 +1,6 @@
 //! Many writers and one reader, each on a thread of its own, on one direction of a pipe.
 ghost use Rattle.std.specs.Prelude.{◌≡◌, ◌≢◌, ◌≤◌, ◌+◌, ◌↔◌, [], length, All, IfOk, IfErr, IsErrOf};
-ghost use Rattle.std.specs.Prelude.{IsSome};
+ghost use Rattle.std.specs.Prelude.{Err, IfNone, IsNone, IsOk, IsSome, OnOk};
 ghost use Rattle.std.specs.Vec.{vec_capacity};
 ghost use Rattle.sync_base.specs.declared.fault.Fault.TheVariants.{BadArg};
 ghost use Rattle.pipe_dev.specs.Openings.{AreNewEnds, IsStartOf};
@@ -138,20 +138,22 @@ fn join_all<'p, 'q, R: Threads>(
     rt: &R,
     reading: JoinHandle<Counted<'p>>,
     running: Running<'q>,
-) -> Result<Counted<'p>, Fault> {
+) -> Result<Counted<'p>, Fault>
+    // A run that was called off is not good, nor is one whose reader did not come to the end.
+    ensures started { OnOk result (IsNone running.entry.called_off) }
+    ensures read { IfOk result (λ counted. IsOk counted.read) }
+{
     let Running {
         handles,
-        all_started,
+        called_off,
     } = running;
     let Joined { wrote, gone } = join_writers(rt, handles);
     let counted = reading.join(rt);
     drop(gone);
-    let ended = if all_started {
-        first_fault(counted.read_to_end(), wrote)
-    } else {
-        Err(Fault::Device)
-    };
-    match ended {
+    if called_off.is_some() {
+        return Err(Fault::Device);
+    }
+    match first_fault(counted.read, wrote) {
         Ok(()) => Ok(counted),
         Err(fault) => Err(fault),
     }
@@ -169,11 +171,12 @@ fn start_reader<'s, 'p: 's, E, R: Wait + Sync>(
     }
 }
 
-// The writers that run on threads, and whether those are all that were to.
+// The writers that run on threads, and where one could not be started, that one, which has hung the
+// pipe up: else writers that wait for room, and the reader, would wait for ever.
 #[derive(Drop)]
 struct Running<'p> {
     handles: Vec<JoinHandle<Writer<'p>>>,
-    all_started: bool,
+    called_off: Option<HungWriter<'p>>,
 }
 
 // Starts each writer on a thread. Where one can't be started it hangs the pipe up, and the run is
@@ -188,6 +191,11 @@ fn start_writers<'s, 'p: 's, E, R: Wait + Sync, G: Gate + Sync>(
     handles: Vec<JoinHandle<Writer<'p>>>,
 ) -> Running<'p>
     requires room { length handles.items + length writers.items ≤ vec_capacity handles }
+
+    // All run, or one that does not has hung the pipe up.
+    ensures all { IfNone result.called_off
+        (length result.handles.items
+        ≡ length handles.entry.items + length writers.entry.items) }
 {
     let mut handles = handles;
     for writer in writers {
@@ -199,17 +207,16 @@ fn start_writers<'s, 'p: 's, E, R: Wait + Sync, G: Gate + Sync>(
             Ok(handle) => handles.push_reserved(handle),
             Err(refused) => {
                 off.store(true, SeqCst);
-                (refused.value)().hangup();
                 return Running {
                     handles,
-                    all_started: false,
+                    called_off: Some((refused.value)().hangup()),
                 };
             }
         }
     }
     Running {
         handles,
-        all_started: true,
+        called_off: None,
     }
 }
 
@@ -238,7 +245,10 @@ struct Joined<'p> {
 }
 
 // The first of two faults, where there is one.
-fn first_fault(first: Result<(), Fault>, second: Result<(), Fault>) -> Result<(), Fault> {
+fn first_fault(first: Result<(), Fault>, second: Result<(), Fault>) -> Result<(), Fault>
+    ensures first { IfErr first (λ fault. result ≡ Err fault) }
+    ensures second { OnOk first (result ≡ second) }
+{
     match first {
         Ok(()) => second,
         Err(fault) => Err(fault),
@@ -255,11 +265,11 @@ fn join_writers<'p, R: Threads>(rt: &R, running: Vec<JoinHandle<Writer<'p>>>) ->
         return Joined { wrote, gone: None };
     };
     'joining: for handle in running {
-        wrote = first_fault(wrote, handle.join(rt).wrote());
+        wrote = first_fault(wrote, handle.join(rt).wrote);
     }
     let last = last.join(rt);
     Joined {
-        wrote: first_fault(wrote, last.wrote()),
+        wrote: first_fault(wrote, last.wrote),
         gone: Some(last.hangup()),
     }
 }
