@@ -1,7 +1,7 @@
 -- Where nothing was written, a front of a report was: none of it.
 use Rattle.std.proofs.lemmas.Result.{err_from_is_err_and}
-use Rattle.p9sync.proofs.RunLemmas.{unreported}
-use Rattle.p9sync.proofs.args.write_threads.Goals as goal
+use Rattle.commands.proofs.RunLemmas.{unreported}
+use Rattle.commands.proofs.args.write_threads.Goals as goal
 
 pub returns-in_err-report-clause-failed : goal.returns-in_err-report-clause-failed
 returns-in_err-report-clause-failed g c =

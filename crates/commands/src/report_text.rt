@@ -1,7 +1,7 @@
 //! What was read by a run on threads, in words.
 ghost use Rattle.std.specs.Prelude.{◌≡◌, ◌++◌, OnOk};
 ghost use Rattle.std.specs.Fmt.{decimal};
-ghost use Rattle.p9sync.specs.ReportText.{report_line};
+ghost use Rattle.commands.specs.ReportText.{report_line};
 
 use crew::Report;
 use std::alloc::AllocError;

@@ -13,9 +13,9 @@ use Rattle.crew.specs.Threads.{IsReportOf}
 use Rattle.scripts.specs.Device.{AppendsFront, WritesTranscript}
 use Rattle.scripts.specs.Script.{Transcript}
 use Rattle.scripts.proofs.DeviceLemmas.{appends_nothing}
-use Rattle.p9sync.specs.ReportText.{report_line}
-use Rattle.p9sync.specs.declared.args.TheConstants.{GOOD, FAULT}
-use Rattle.p9sync.specs.Args.{status_of, status_of_threads, EndsRun, EndsTask, EndsThreads}
+use Rattle.commands.specs.ReportText.{report_line}
+use Rattle.commands.specs.declared.args.TheConstants.{GOOD, FAULT}
+use Rattle.commands.specs.Args.{status_of, status_of_threads, EndsRun, EndsTask, EndsThreads}
 
 -- a report of a run in which nothing was read
 abbrev nothing_read : ThreadsOpts → Report

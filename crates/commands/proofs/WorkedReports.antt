@@ -1,7 +1,7 @@
 -- What is said of some reports, computed from the definition.
 use Rattle.std.proofs.Common.{◌≡◌, ◌∷◌, ◌++◌, [], refl, codes, true, false}
 use Rattle.std.specs.Fmt.{digits}
-use Rattle.p9sync.specs.ReportText.{report_line}
+use Rattle.commands.specs.ReportText.{report_line}
 
 in_order : report_line (record { writers = 4; writes = 4000; bytes = 64000; in_order = true })
     ≡ codes "writers 4 writes 4000 bytes 64000 in order" ++ 10 ∷ []

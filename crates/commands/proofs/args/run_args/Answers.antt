@@ -4,8 +4,8 @@ use Rattle.command_line.specs.declared.task.Task.TheVariants.{Pipe, Replay}
 use Rattle.command_line.specs.CommandLine.{task_asked}
 use Rattle.scripts.specs.PipeScript.{pipe_told}
 use Rattle.scripts.specs.Schedule.{schedule_told}
-use Rattle.p9sync.proofs.RunLemmas.{ends_as, ends_for_memory, ends_script}
-use Rattle.p9sync.proofs.args.run_args.Goals as goal
+use Rattle.commands.proofs.RunLemmas.{ends_as, ends_for_memory, ends_script}
+use Rattle.commands.proofs.args.run_args.Goals as goal
 
 pub returns-in-Err-OutOfMemory-clause-runs : goal.returns-in-Err-OutOfMemory-clause-runs
 returns-in-Err-OutOfMemory-clause-runs g c =

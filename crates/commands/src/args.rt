@@ -7,14 +7,14 @@ ghost use Rattle.scripts.specs.Device.{AppendsFront, TakesAtMost};
 ghost use Rattle.crew.specs.declared.opts.Report.{Report};
 ghost use Rattle.crew.specs.Threads.{IsReportOf};
 ghost use Rattle.command_line.specs.CommandLine.{task_asked};
-ghost use Rattle.p9sync.specs.Args.{
+ghost use Rattle.commands.specs.Args.{
   status_of,
   status_of_threads,
   EndsTask,
   EndsThreads,
   ReadsNothing,
 };
-ghost use Rattle.p9sync.specs.ReportText.{report_line};
+ghost use Rattle.commands.specs.ReportText.{report_line};
 
 use crate::report_text::push_report;
 use command_line::{NoTask, Task, task_of};

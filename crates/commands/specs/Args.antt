@@ -4,14 +4,14 @@ use Rattle.std.specs.Prelude.{Option, IfSome, Result, Ok, Err}
 use Rattle.std.specs.Io.KnownBytes.{Appends}
 use Rattle.sync_base.specs.declared.fault.Fault.{Fault}
 use Rattle.sync_base.specs.declared.threads_opts.ThreadsOpts.{ThreadsOpts}
-use Rattle.p9sync.specs.declared.args.TheConstants.{GOOD, FAULT}
+use Rattle.commands.specs.declared.args.TheConstants.{GOOD, FAULT}
 use Rattle.command_line.specs.declared.task.Task.{Task}
 use Rattle.command_line.specs.declared.task.Task.TheVariants.{Pipe, Replay, Threads}
 use Rattle.crew.specs.declared.opts.Report.{Report}
 use Rattle.scripts.specs.Script.{Transcript}
 use Rattle.scripts.specs.Device.{AppendsFront, WritesTranscript}
 use Rattle.scripts.specs.PipeScript.{pipe_told}
-use Rattle.p9sync.specs.ReportText.{report_line}
+use Rattle.commands.specs.ReportText.{report_line}
 use Rattle.scripts.specs.Schedule.{schedule_told}
 use Rattle.crew.specs.Threads.{IsReportOf}
 

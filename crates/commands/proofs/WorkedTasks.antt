@@ -1,6 +1,6 @@
 -- A script is read: that of a pipe, and a schedule.
 use Rattle.command_line.specs.declared.task.Task.TheVariants.{Pipe, Replay}
-use Rattle.p9sync.specs.Args.{ReadsNothing}
+use Rattle.commands.specs.Args.{ReadsNothing}
 
 a_pipe_reads_its_script : ¬ ReadsNothing Pipe
 a_pipe_reads_its_script nothing = nothing

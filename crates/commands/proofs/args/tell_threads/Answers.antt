@@ -1,6 +1,6 @@
 -- A run on threads ends as its outcome says.
-use Rattle.p9sync.proofs.RunLemmas.{ends_threads, good_is_ok}
-use Rattle.p9sync.proofs.args.tell_threads.Goals as goal
+use Rattle.commands.proofs.RunLemmas.{ends_threads, good_is_ok}
+use Rattle.commands.proofs.args.tell_threads.Goals as goal
 
 pub returns-clause-ends : goal.returns-clause-ends
 returns-clause-ends g c =
