@@ -60,12 +60,12 @@ module _ (words : Words) where
 
   the_first_is_at_the_table_of_its_words : (table : TableId) → table ≢ table_of words
       → ¬ IsFirst words
-          (record { words = words; process = record { table = table; pid = 0; trace = [] } })
+      (record { words = words; process = record { table = table; pid = 0; trace = [] } })
   the_first_is_at_the_table_of_its_words table other first = other first.table
 
   a_new_rosters_pids_are_at_the_table_of_its_words : (table : TableId) → table ≢ table_of words
       → ¬ HasAllLeft words
-          (record (left words 1 0 first_group) { pids = record { table = table; next = 1 } })
+      (record (left words 1 0 first_group) { pids = record { table = table; next = 1 } })
   a_new_rosters_pids_are_at_the_table_of_its_words table other all = other all.table
 
   a_new_roster_gave_no_pid : ¬ HasAllLeft words (left words 2 0 first_group)
