@@ -156,17 +156,22 @@ module _ (unused : Unused) (space : TagSpace) (flags : Flags) (before after : Me
   no_child_was_asked_for unasked (inl wants) = unasked wants.child
   no_child_was_asked_for unasked (inr wants) = unasked wants.joins.child
 
-  a_pid_for_unknown_flags : (AreKnown flags → ⊥) → given_of after.seat < limit_of space.lock
+  -- a pid, or a member, is asked for with unknown flags
+  a_child_for_unknown_flags : (AreKnown flags → ⊥)
       → WhyNotForked (rfork_of unused space flags) before after fault.NoProc → ⊥
-  a_pid_for_unknown_flags unknown fewer (inl wants) = unknown wants.known
-  a_pid_for_unknown_flags unknown fewer (inr wants) =
-      nobody_knows space before after fewer wants.all_given
+  a_child_for_unknown_flags unknown (inl wants) = unknown wants.known
+  a_child_for_unknown_flags unknown (inr wants) = unknown wants.known
 
   a_pid_and_a_member_are_left : HasPid unused → given_of after.seat < limit_of space.lock
       → WhyNotForked (rfork_of unused space flags) before after fault.NoProc → ⊥
   a_pid_and_a_member_are_left pid fewer (inl wants) = wants.none pid
   a_pid_and_a_member_are_left pid fewer (inr wants) =
       nobody_knows space before after fewer wants.all_given
+
+  -- a member is asked for with unknown flags, or before a pid
+  a_member_for_unknown_flags : (AreKnown flags → ⊥)
+      → WantsMember (rfork_of unused space flags) before after → ⊥
+  a_member_for_unknown_flags unknown wants = unknown wants.known
 
   a_member_before_a_pid : (HasPid unused → ⊥)
       → WantsMember (rfork_of unused space flags) before after → ⊥

@@ -53,6 +53,7 @@ rfork_of unused space flags = record { unused = unused; space = space; flags = f
 
 -- a member of the parent's space was asked for, and all were given
 pub record WantsMember (rfork : Rfork) (before after : Member) : Type 0 where
+  pub known : AreKnown rfork.flags
   pub joins : JoinsParent rfork.flags
   pub pid : HasPid rfork.unused
   pub all_given : KnowsAllGiven rfork.space.lock before.seat after.seat

@@ -92,7 +92,7 @@ const NO_RENDEZ: Came = Came::Refused {
     fault: Fault::NoRendez,
 };
 
-const ROWS: [Row; 16] = [
+const ROWS: [Row; 17] = [
     (0, ALL, ALONE, 2, (1, 2)),
     (1, ALL, BOTH_HERE, 3, (0, 2)),
     (2, ALL, MOVED, 2, (1, 0)),
@@ -103,6 +103,7 @@ const ROWS: [Row; 16] = [
     (7, ALL, CHILD_MOVED, 2, (0, 0)),
     (8, ALL, BAD_FLAGS, 2, (1, 2)),
     (15, NO_PID, BAD_FLAGS, 2, (0, 2)),
+    (9, NO_MEMBER, BAD_FLAGS, 2, (1, 3)),
     (1, NO_PID, NO_PROC, 2, (0, 2)),
     (7, NO_PID, NO_PROC, 2, (0, 2)),
     (2, NO_ROW, NO_RENDEZ, 2, (1, 1)),
