@@ -34,11 +34,11 @@ use Rattle.plan9.specs.Readings.{ReadsBy}
 
 -- the end that is shared, as it was at first
 abbrev pub first_end : Shared → ReadSide
-first_end shared = shared.place.value
+first_end shared = shared.place.slot.value
 
 -- and the end of a process that shares it
 abbrev pub end_of : Sharer → ReadSide
-end_of sharer = sharer.place.now.value
+end_of sharer = sharer.place.now.slot.value
 
 -- ---- who shares
 

@@ -1,14 +1,16 @@
-//! The place of a shared read end between two turns. Each process that takes the end up lays it
-//! down again, and its receipt shows that.
+//! The place of a shared read end between two turns, and the calls of the end that lies there. Each
+//! process that takes the end up lays it down again, and its receipt shows that.
 ghost use Rattle.std.specs.Prelude.{◌≡◌, IfSome};
 ghost use Rattle.pipe_dev.specs.Ends.{IsSameReadEnd};
 ghost use Rattle.plan9.specs.Places.{IsLaid, Swaps, end_in};
 
+use crate::pool::Holder;
 use counted_slot::{Claim, Counted, FREE, Fits, TAKEN};
-use pipe_dev::ReadEnd;
+use pipe_dev::{ReadAnswer, ReadEnd, TryAnswer};
 use std::snapshot::Snapshot;
 use std::sync::Wait;
 use std::thread::yield_now;
+use sync_base::Fault;
 
 /// The end while it lies between two turns.
 #[derive(Drop)]
@@ -24,13 +26,17 @@ impl<'p> Fits for Lying<'p> {
     ghost fits = { λ first lying. IsSameReadEnd first.value lying.end };
 }
 
-/// The place of the end while nobody has the turn.
-pub(crate) type Place<'p> = Counted<Option<Lying<'p>>>;
+/// The place of the end while nobody has the turn. While it is shared, only the calls below reach
+/// into it: each takes the end up, and lays it down.
+#[derive(Drop)]
+pub(crate) struct Place<'p> {
+    slot: Counted<Option<Lying<'p>>>,
+}
 
 /// The end, for a turn. It can't be dropped: `lay_down` spends it, whatever the answer is.
 #[must_use]
-pub(crate) struct TakenUp<'p> {
-    pub(crate) end: ReadEnd<'p>,
+struct TakenUp<'p> {
+    end: ReadEnd<'p>,
 }
 
 /// What was put into the place of the end. `put` alone makes it.
@@ -48,17 +54,20 @@ pub(crate) struct Swapped<'p> {
 
 /// A place with this end in it.
 pub(crate) fn place_of<'p>(end: ReadEnd<'p>) -> Place<'p>
-    ensures { result.value ≡ end.entry }
+    ensures { result.slot.value ≡ end.entry }
 {
     let first = Snapshot::of(&end);
-    Counted::new(Some(Lying { end }), &first)
+    Place {
+        slot: Counted::new(Some(Lying { end }), &first),
+    }
 }
 
 /// The end in a place.
 pub(crate) fn end_of<'p>(place: Place<'p>) -> Option<ReadEnd<'p>>
-    ensures { IfSome result (IsSameReadEnd place.entry.value) }
+    ensures { IfSome result (IsSameReadEnd place.entry.slot.value) }
 {
-    end_lying(place.into_inner())
+    let Place { slot } = place;
+    end_lying(slot.into_inner())
 }
 
 // The end, where it lies there.
@@ -87,11 +96,11 @@ fn put<'p>(claim: Claim<'_, Option<Lying<'p>>>, lying: Option<Lying<'p>>) -> Swa
 
 // Does so once nobody else does.
 fn swap<'p, R: Wait>(rt: &R, place: &Place<'p>, lying: Option<Lying<'p>>) -> Swapped<'p>
-    requires { IfSome lying (λ lying. IsSameReadEnd place.now.value lying.end) }
-    ensures { Swaps place.now.value lying.entry result }
+    requires { IfSome lying (λ lying. IsSameReadEnd place.now.slot.value lying.end) }
+    ensures { Swaps place.now.slot.value lying.entry result }
 {
     'trying: for _ in rt.forever() {
-        let (found, claim) = place.turn(FREE, TAKEN);
+        let (found, claim) = place.slot.turn(FREE, TAKEN);
         if found == FREE {
             return put(claim, lying);
         }
@@ -101,9 +110,9 @@ fn swap<'p, R: Wait>(rt: &R, place: &Place<'p>, lying: Option<Lying<'p>>) -> Swa
     unreachable!()
 }
 
-/// Takes the end up. A process with the turn finds it there.
-pub(crate) fn take_up<'p, R: Wait>(rt: &R, place: &Place<'p>) -> TakenUp<'p>
-    ensures { IsSameReadEnd place.now.value result.end }
+// Takes the end up. A process with the turn finds it there.
+fn take_up<'p, R: Wait>(rt: &R, place: &Place<'p>) -> TakenUp<'p>
+    ensures { IsSameReadEnd place.now.slot.value result.end }
 {
     'looking: for _ in rt.forever() {
         let Swapped { found, put: _ } = swap(rt, place, None);
@@ -115,12 +124,75 @@ pub(crate) fn take_up<'p, R: Wait>(rt: &R, place: &Place<'p>) -> TakenUp<'p>
     unreachable!()
 }
 
-/// Lays the end down where it lay.
-pub(crate) fn lay_down<'p, R: Wait>(rt: &R, place: &Place<'p>, taken: TakenUp<'p>) -> Receipt<'p>
-    requires { IsSameReadEnd place.now.value taken.end }
+// Lays the end down where it lay.
+fn lay_down<'p, R: Wait>(rt: &R, place: &Place<'p>, taken: TakenUp<'p>) -> Receipt<'p>
+    requires { IsSameReadEnd place.now.slot.value taken.end }
     ensures { IsLaid taken.entry.end result }
 {
     let TakenUp { end } = taken;
     let Swapped { found: _, put } = swap(rt, place, Some(Lying { end }));
     put
+}
+
+/// The answer to a call of the end, and the receipt that the end was laid down after it.
+pub(crate) struct Called<'p, A> {
+    pub(crate) answer: A,
+    pub(crate) laid: Receipt<'p>,
+}
+
+// Each of these makes one call of the end that it has taken up, and lays it down.
+impl<'s, 'k> Holder<'s, 'k> {
+    ghost use Rattle.plan9.specs.Sharings.{
+      CallsAndLays,
+      ReadsBlockOnce,
+      ReadsOnce,
+      TriesOnce,
+      buffers,
+    };
+
+    pub(crate) fn read_shared<'p, R: Wait>(
+        &mut self,
+        rt: &R,
+        place: &Place<'p>,
+        buffer: &mut [u8],
+    ) -> Called<'p, Result<ReadAnswer, Fault>>
+        ensures { CallsAndLays place.now.slot.value self.old
+            (ReadsOnce (buffers buffer.old buffer.new) result.answer) result.laid self.new }
+    {
+        let mut taken = take_up(rt, place);
+        let answer = taken.end.read(rt, &mut self.proc, buffer);
+        let laid = lay_down(rt, place, taken);
+        Called { answer, laid }
+    }
+
+    pub(crate) fn read_block_shared<'p, R: Wait>(
+        &mut self,
+        rt: &R,
+        place: &Place<'p>,
+        block: &mut Vec<u8>,
+    ) -> Called<'p, Result<ReadAnswer, Fault>>
+        ensures { CallsAndLays place.now.slot.value self.old
+            (ReadsBlockOnce (buffers block.old.items block.new.items) result.answer)
+            result.laid self.new }
+    {
+        let mut taken = take_up(rt, place);
+        let answer = taken.end.read_block(rt, &mut self.proc, block);
+        let laid = lay_down(rt, place, taken);
+        Called { answer, laid }
+    }
+
+    pub(crate) fn try_shared<'p, R: Wait>(
+        &mut self,
+        rt: &R,
+        place: &Place<'p>,
+        buffer: &mut [u8],
+    ) -> Called<'p, Result<TryAnswer, Fault>>
+        ensures { CallsAndLays place.now.slot.value self.old
+            (TriesOnce (buffers buffer.old buffer.new) result.answer) result.laid self.new }
+    {
+        let mut taken = take_up(rt, place);
+        let answer = taken.end.try_read(&mut self.proc, buffer);
+        let laid = lay_down(rt, place, taken);
+        Called { answer, laid }
+    }
 }

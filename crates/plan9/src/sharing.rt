@@ -1,5 +1,5 @@
 //! A read end that several processes share: each reads in its turn, and a note ends its wait.
-use crate::place::{Place, Receipt, end_of, lay_down, place_of, take_up};
+use crate::place::{Called, Place, end_of, place_of};
 use crate::pool::{Holder, Pool};
 use crate::refusals::Refused;
 use crate::vacant::NotHolder;
@@ -95,69 +95,6 @@ impl<'p> Shared<'p> {
     {
         let Shared { turns: _, place } = self;
         end_of(place)
-    }
-}
-
-/// The answer to a call of the end, and the receipt that the end was laid down after it.
-struct Called<'p, A> {
-    answer: A,
-    laid: Receipt<'p>,
-}
-
-// Each of these makes one call of the end that it has taken up, and lays it down.
-impl<'s, 'k> Holder<'s, 'k> {
-    ghost use Rattle.plan9.specs.Sharings.{
-      CallsAndLays,
-      ReadsBlockOnce,
-      ReadsOnce,
-      TriesOnce,
-      buffers,
-    };
-
-    fn read_shared<'p, R: Wait>(
-        &mut self,
-        rt: &R,
-        place: &Place<'p>,
-        buffer: &mut [u8],
-    ) -> Called<'p, Result<ReadAnswer, Fault>>
-        ensures { CallsAndLays place.now.value self.old
-            (ReadsOnce (buffers buffer.old buffer.new) result.answer) result.laid self.new }
-    {
-        let mut taken = take_up(rt, place);
-        let answer = taken.end.read(rt, &mut self.proc, buffer);
-        let laid = lay_down(rt, place, taken);
-        Called { answer, laid }
-    }
-
-    fn read_block_shared<'p, R: Wait>(
-        &mut self,
-        rt: &R,
-        place: &Place<'p>,
-        block: &mut Vec<u8>,
-    ) -> Called<'p, Result<ReadAnswer, Fault>>
-        ensures { CallsAndLays place.now.value self.old
-            (ReadsBlockOnce (buffers block.old.items block.new.items) result.answer)
-            result.laid self.new }
-    {
-        let mut taken = take_up(rt, place);
-        let answer = taken.end.read_block(rt, &mut self.proc, block);
-        let laid = lay_down(rt, place, taken);
-        Called { answer, laid }
-    }
-
-    fn try_shared<'p, R: Wait>(
-        &mut self,
-        rt: &R,
-        place: &Place<'p>,
-        buffer: &mut [u8],
-    ) -> Called<'p, Result<TryAnswer, Fault>>
-        ensures { CallsAndLays place.now.value self.old
-            (TriesOnce (buffers buffer.old buffer.new) result.answer) result.laid self.new }
-    {
-        let mut taken = take_up(rt, place);
-        let answer = taken.end.try_read(&mut self.proc, buffer);
-        let laid = lay_down(rt, place, taken);
-        Called { answer, laid }
     }
 }
 

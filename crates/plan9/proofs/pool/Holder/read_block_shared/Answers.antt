@@ -8,7 +8,7 @@ use Rattle.plan9.proofs.pool.Holder.read_block_shared.Goals as goal
 pub returns : goal.returns
 returns g c =
     let read = c.read_block-answer.ensures in
-    calls_shared c.args.place.now.value c.take_up-taken.result.end c.read_block-answer.new.self
+    calls_shared c.args.place.now.slot.value c.take_up-taken.result.end c.read_block-answer.new.self
     c.args.self.now _ c.self.inside.proc
     (ReadsBlockOnce (buffers c.args.block.now.items c.read_block-answer.new.block.items)
     c.read_block-answer.result)

@@ -8,7 +8,7 @@ use Rattle.plan9.proofs.pool.Holder.read_shared.Goals as goal
 pub returns : goal.returns
 returns g c =
     let read = c.read-answer.ensures in
-    calls_shared c.args.place.now.value c.take_up-taken.result.end c.read-answer.new.self
+    calls_shared c.args.place.now.slot.value c.take_up-taken.result.end c.read-answer.new.self
     c.args.self.now _ c.self.inside.proc
     (ReadsOnce (buffers c.args.buffer.now c.read-answer.new.buffer) c.read-answer.result)
     c.take_up-taken.ensures

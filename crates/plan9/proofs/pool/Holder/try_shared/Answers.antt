@@ -8,7 +8,7 @@ use Rattle.plan9.proofs.pool.Holder.try_shared.Goals as goal
 pub returns : goal.returns
 returns g c =
     let read = c.try_read-answer.ensures in
-    calls_shared c.args.place.now.value c.take_up-taken.result.end c.try_read-answer.new.self
+    calls_shared c.args.place.now.slot.value c.take_up-taken.result.end c.try_read-answer.new.self
     c.args.self.now _ c.self.inside.proc
     (TriesOnce (buffers c.args.buffer.now c.try_read-answer.new.buffer) c.try_read-answer.result)
     c.take_up-taken.ensures
