@@ -7,8 +7,8 @@ use Rattle.histories.proofs.ListLemmas.{all_append}
 use Rattle.pipe_dev.specs.Rounds.{Rounds}
 use Rattle.sleep_wakeup.specs.Kernel.{Unused, next_process, one_pid_less}
 use Rattle.plan9.specs.Pipes.{children, less_children}
-use Rattle.plan9.specs.Pools.{AreChildren, Forking, ForksHolder, ForksOneMore, Holding}
-use Rattle.plan9.specs.Pools.{procs_of_holders}
+use Rattle.plan9.specs.Pools.{AreChildren, Forking, ForksEach, ForksHolder, ForksOneMore, Holding}
+use Rattle.plan9.specs.Pools.{IsSameParent, procs_of_holders}
 
 -- there is one more in the list
 pub one_longer : (holders more : List Holding) (child : Holding) → more ≡ holders ++ child ∷ []
@@ -33,6 +33,30 @@ forked_one_more start before after holders more child is forked one =
     let next : length more ≡ suc (length holders) = omega (arith, longer) in
     subst (λ times. Rounds ForksOneMore times start after) (sym next)
     (record { between = before; rounds = forked; last = one })
+
+-- one was forked after the others, which were forked one after the other
+each_and_one : (holders : List Holding) (child : Holding) (start before after : Forking)
+    → ForksEach holders start before
+    → ForksHolder before.roster before.parent after.parent child after.roster
+    → IsSameParent before.parent after.parent → ForksEach (holders ++ child ∷ []) start after
+each_and_one [] child start before after same forks parent = (
+  after,
+  subst (λ (it : Forking). ForksHolder it.roster it.parent after.parent child after.roster)
+      same forks,
+  subst (λ (it : Forking). IsSameParent it.parent after.parent) same parent,
+  refl,
+)
+each_and_one (other ∷ holders) child start before after (next, (first, (kept, rest))) forks same =
+    (next, first, kept, each_and_one holders child next before after rest forks same)
+
+-- the same, of the list with one more
+pub one_each_more : (start before after : Forking) (holders more : List Holding)
+    (child : Holding) → more ≡ holders ++ child ∷ [] → ForksEach holders start before
+    → ForksHolder before.roster before.parent after.parent child after.roster
+    → IsSameParent before.parent after.parent → ForksEach more start after
+one_each_more start before after holders more child is each forks parent =
+    subst (λ its. ForksEach its start after) (sym is)
+    (each_and_one holders child start before after each forks parent)
 
 -- ---- children, one by one
 

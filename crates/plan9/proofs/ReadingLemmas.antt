@@ -1,5 +1,5 @@
 -- What a reader knows of a piece that it got, and of the pieces with which it fills a buffer.
-use Rattle.std.proofs.Common.{◌≡◌, ◌≤◌, ◌+◌, ◌-◌, ◌++◌, ℕ, suc, List, length, take, drop}
+use Rattle.std.proofs.Common.{◌≡◌, ◌≢◌, ◌≤◌, ◌+◌, ◌-◌, ◌++◌, ℕ, suc, List, length, take, drop}
 use Rattle.std.proofs.Common.{Result, Ok, Err, Option, Some, None, refl, ap, ◌∙◌, subst, arith}
 use Rattle.std.proofs.Common.{length-append, length-drop}
 use borrow.Rule.Slice.PartMut.{mid_of, put_mid}
@@ -104,12 +104,12 @@ same_on old between new first second =
 -- a read into what is left of the buffer was answered so
 reads_after : (now : Filling) (answer : Result (Option ℕ) Fault) (reader : Reader)
     (rest : List ℕ) → ReadsPiece now.reader (rest_of now) answer reader rest
-    → ReadsAfter now (read_answer answer) reader (back_of now rest)
+    → ReadsAfter now answer reader (back_of now rest)
 reads_after now answer reader rest piece =
     record {
       rest = rest;
-      read = subst (λ (xs : List ℕ). ReadsBy now.reader xs (read_answer answer) reader rest)
-          (rest_all now.count now.buffer) piece.reads;
+      read = subst (λ (xs : List ℕ). ReadsPiece now.reader xs answer reader rest)
+          (rest_all now.count now.buffer) piece;
       buffer_is = back_all now.count now.buffer rest;
     }
 
@@ -120,8 +120,7 @@ pub one_more : (start now : Filling) (answer : Result (Option ℕ) Fault) (more 
     → SoFar start (filling reader (back_of now rest) (now.count + more))
 one_more start now answer more reader rest so_far is piece =
     let reads = subst
-    (λ (a : Result (Option ℕ) Fault).
-    ReadsAfter now (read_answer a) reader (back_of now rest))
+    (λ (a : Result (Option ℕ) Fault). ReadsAfter now a reader (back_of now rest))
     is (reads_after now answer reader rest piece) in
     let lies : more ≤ length rest =
     subst (λ (a : Result (Option ℕ) Fault). LiesIn rest a) is piece.fits in
@@ -147,9 +146,10 @@ one_more start now answer more reader rest so_far is piece =
 pub at_the_end : (start now : Filling) (answer : Result (Option ℕ) Fault) (reader : Reader)
     (rest : List ℕ) → SoFar start now → answer ≡ Ok None
     → ReadsPiece now.reader (rest_of now) answer reader rest → start.count ≡ 0
+    → now.count ≢ length now.buffer
     → FillsUp start.reader start.buffer (Err (record { count = now.count; fault = None })) reader
     (back_of now rest)
-at_the_end start now answer reader rest so_far is piece none =
+at_the_end start now answer reader rest so_far is piece none room =
     record {
       same = same_on start.reader now.reader reader so_far.same piece.same;
       times = so_far.times;
@@ -158,10 +158,10 @@ at_the_end start now answer reader rest so_far is piece none =
           (λ (n : ℕ). Rounds GoesOn so_far.times (filling start.reader start.buffer n) now)
           none so_far.rounds;
       ended = record {
+        left = omega (arith, so_far.within, room);
         count_is = refl;
         reads = subst
-            (λ (a : Result (Option ℕ) Fault).
-            ReadsAfter now (read_answer a) reader (back_of now rest))
+            (λ (a : Result (Option ℕ) Fault). ReadsAfter now a reader (back_of now rest))
             is (reads_after now answer reader rest piece);
       };
     }
@@ -170,9 +170,10 @@ at_the_end start now answer reader rest so_far is piece none =
 pub at_a_fault : (start now : Filling) (answer : Result (Option ℕ) Fault) (fault : Fault)
     (reader : Reader) (rest : List ℕ) → SoFar start now → answer ≡ Err fault
     → ReadsPiece now.reader (rest_of now) answer reader rest → start.count ≡ 0
+    → now.count ≢ length now.buffer
     → FillsUp start.reader start.buffer (Err (record { count = now.count; fault = Some fault }))
     reader (back_of now rest)
-at_a_fault start now answer fault reader rest so_far is piece none =
+at_a_fault start now answer fault reader rest so_far is piece none room =
     record {
       same = same_on start.reader now.reader reader so_far.same piece.same;
       times = so_far.times;
@@ -181,10 +182,10 @@ at_a_fault start now answer fault reader rest so_far is piece none =
           (λ (n : ℕ). Rounds GoesOn so_far.times (filling start.reader start.buffer n) now)
           none so_far.rounds;
       ended = record {
+        left = omega (arith, so_far.within, room);
         count_is = refl;
         reads = subst
-            (λ (a : Result (Option ℕ) Fault).
-            ReadsAfter now (read_answer a) reader (back_of now rest))
+            (λ (a : Result (Option ℕ) Fault). ReadsAfter now a reader (back_of now rest))
             is (reads_after now answer reader rest piece);
       };
     }

@@ -1,14 +1,25 @@
 -- What a stream knows of the empty writes that it passed, and how a read of it ends after them.
-use Rattle.std.proofs.Common.{◌≡◌, ◌≢◌, ℕ, zero, suc, Result, Ok, Err}
-use Rattle.std.proofs.Common.{Option, Some, None, refl, inr, subst}
+use Rattle.std.proofs.Common.{◌≡◌, ◌≢◌, ◌<◌, ◌≤◌, ℕ, zero, suc, Result, Ok, Err}
+use Rattle.std.proofs.Common.{List, arith, length}
+use Rattle.std.specs.Prelude.{◌↔◌, IsErrOf, min}
+use Rattle.std.proofs.lemmas.Bool.Decides.{nat_tests}
+use Rattle.std.proofs.lemmas.List.{length-take}
+use Rattle.std.proofs.Common.{[], Option, Some, None, refl, inr, subst}
 use Rattle.std.specs.declared.io.Error.{Error}
 use Rattle.std.specs.IoError.{error_kind}
 use Rattle.sync_base.specs.declared.fault.Fault.{Fault}
+use Rattle.sync_base.specs.declared.fault.Fault.TheVariants as fault
+use Rattle.sync_base.specs.declared.limits.TheConstants.{ATOMIC_SIZE}
 use Rattle.pipe_dev.specs.Rounds.{Rounds}
+use Rattle.pipe_dev.specs.Rendezes.{OwnsRow}
+use Rattle.plan9.specs.declared.pipes.Writer.{Writer}
 use Rattle.plan9.specs.Streams.{Lent, EndsTaking, PassesEmpty, Streams, Takes, kind_of}
+use Rattle.plan9.specs.Streams.{WritesFront, WritesOnce, front_of}
 
--- so many empty writes were passed
+-- there was room, and so many empty writes were passed
 pub record Passed (start now : Lent) : Type 0 where
+  -- a buffer of some bytes
+  pub room : start.buffer ≢ []
   -- as many
   pub times : ℕ
   -- one after the other
@@ -19,6 +30,7 @@ pub passes : (start now next : Lent) (answer : Result (Option ℕ) Fault) → Pa
     → answer ≡ Ok (Some 0) → Takes now answer next → Passed start next
 passes start now next answer passed is took =
     record {
+      room = passed.room;
       times = suc passed.times;
       rounds = record {
         between = now;
@@ -32,6 +44,7 @@ ends : (start now next : Lent) (answer : Result ℕ Error) (kept : Option Fault)
     → Passed start now → EndsTaking now answer kept next → Streams start answer kept next
 ends start now next answer kept passed ended =
     inr (record {
+      room = passed.room;
       times = passed.times;
       before = now;
       passed = passed.rounds;
@@ -68,3 +81,24 @@ fails start now next answer why error passed is kind took =
       subst (λ answer. Takes now answer next) is took,
       record { kept_is = refl; kind_is = kind },
     )
+
+-- ---- a write
+
+-- the front of some bytes is of the atomic size, or less
+front_fits : (bytes : List ℕ) → length (front_of bytes) ≤ ATOMIC_SIZE
+front_fits bytes =
+    let size = length-take (min (length bytes) ATOMIC_SIZE) bytes in grind (arith, nat_tests, size)
+
+-- a write of the front is not too big, and is refused first by a process of another kernel
+pub writes_front : (old : Writer) (bytes : List ℕ) (answer : Result ℕ Fault) (new : Writer)
+    → (IsErrOf answer fault.TooBig ↔ (ATOMIC_SIZE < length (front_of bytes)))
+    → (length (front_of bytes) ≤ ATOMIC_SIZE
+    → (IsErrOf answer fault.NoRendez ↔ ¬ OwnsRow old.proc.words old.end.row))
+    → WritesOnce old (front_of bytes) answer new → WritesFront old bytes answer new
+writes_front old bytes answer new too_big no_rendez wrote =
+    let fits = front_fits bytes in
+    record {
+      too_big = λ is. let over = too_big.0 is in omega (arith, over, fits);
+      no_rendez = no_rendez fits;
+      wrote = wrote;
+    }

@@ -42,10 +42,10 @@ module _ (old new : Reader) (buffer buffer' : List ℕ) (answer : Result (Option
 
 -- ---- until a buffer is full
 
-module _ (old : Filling) (answer : Result ReadAnswer Fault) (reader : Reader)
+module _ (old : Filling) (answer : Result (Option ℕ) Fault) (reader : Reader)
     (buffer : List ℕ) where
   nothing_was_read_after : ((rest : List ℕ)
-      → ¬ ReadsBy old.reader (drop old.count old.buffer) answer reader rest)
+      → ¬ ReadsPiece old.reader (drop old.count old.buffer) answer reader rest)
       → ¬ ReadsAfter old answer reader buffer
   nothing_was_read_after none reads = none reads.rest reads.read
 
@@ -54,7 +54,7 @@ module _ (old : Filling) (answer : Result ReadAnswer Fault) (reader : Reader)
   what_was_filled_is_lost other reads = other reads.rest reads.buffer_is
 
 module _ (old new : Filling) where
-  no_piece_came : ((more : ℕ) → ¬ ReadsAfter old (Ok (read.Got more)) new.reader new.buffer)
+  no_piece_came : ((more : ℕ) → ¬ ReadsAfter old (Ok (Some more)) new.reader new.buffer)
       → ¬ GoesOn old new
   no_piece_came none goes = none goes.more goes.reads
 
@@ -64,6 +64,12 @@ module _ (old new : Filling) where
 module _ (before : Filling) (short : ShortRead) (reader : Reader) (buffer : List ℕ) where
   what_came_is_told : Stops before short reader buffer → short.count ≡ before.count
   what_came_is_told stops = stops.count_is
+
+  -- a full buffer is short, also one of no bytes
+  it_stops_where_all_is_full : before.count ≡ length before.buffer
+      → ¬ Stops before short reader buffer
+  it_stops_where_all_is_full full stops =
+      let left = stops.left in omega (arith, full, left)
 
   it_stops_at_a_piece : ¬ ReadsAfter before (stopped short.fault) reader buffer
       → ¬ Stops before short reader buffer

@@ -17,7 +17,8 @@ use Rattle.plan9.specs.declared.vacant.Unseated.{Unseated}
 use Rattle.plan9.specs.Pools.{KnowsNoSeat, WhyNotJoined, ForksHolder, Forking, WhyNoFork}
 use Rattle.plan9.specs.Pools.{AreChildren, IsFirstSeat, TakesSeat, gathering}
 use Rattle.plan9.specs.Pools.{procs_of_holders, without_spare}
-use Rattle.plan9.specs.Pools.{IsFilled, AreHolders, MayHold, ForksOneMore, StopsForking, forking}
+use Rattle.plan9.specs.Pools.{IsFilled, AreHolders, ForksEach, MayHold, ForksOneMore, StopsForking}
+use Rattle.plan9.specs.Pools.{forking}
 use Rattle.plan9.specs.Pools.{Gathering, AsksTooMany, LacksMemory, HasNoFirst, HasTooFew}
 use Rattle.plan9.specs.Pools.{WhyNoHolders, WhyNoneBegin, IsFurtherVacancy}
 use Rattle.plan9.specs.Vacancies.{Vacancy}
@@ -219,6 +220,39 @@ module _ (pool : Pooled) (running : Running) (unused after : Unused) (holding : 
       (are : AreHolders (gathering pool running unused 1) (holding ∷ []) after)
       → AreChildren unused running.process.pid are.others after
   the_others_are_children are = are.made
+
+  -- it was the first, and the last of them; and a seat was given for each other, and no more
+  who_asks_was_the_first : ((first : Holding) → ¬ IsFirstHolder pool running first)
+      → ¬ AreHolders (gathering pool running unused 1) (holding ∷ []) after
+  who_asks_was_the_first none are = none are.first are.first_is
+
+  who_asks_holds_last : (are : AreHolders (gathering pool running unused 1) (holding ∷ []) after)
+      → holding ∷ [] ≡ are.others ++ are.last ∷ []
+  who_asks_holds_last are = are.holders_are
+
+  no_other_seat_was_given : ((others : List Holding) (first last : Holding)
+      → ¬ ForksEach others (forking unused first) (forking after last))
+      → ¬ AreHolders (gathering pool running unused 1) (holding ∷ []) after
+  no_other_seat_was_given none are = none are.others are.first are.last are.forked
+
+module _ (start stop : Forking) (child : Holding) where
+  -- a parent of no child gives a seat; a child is another than the one that was forked, and its
+  -- parent makes a step
+  a_seat_for_no_child : stop.parent ≢ start.parent → ¬ ForksEach [] start stop
+  a_seat_for_no_child other each = other (ap (λ it. it.parent) each)
+
+  a_child_that_was_not_forked : ((next : Forking)
+      → ¬ ForksHolder start.roster start.parent next.parent child next.roster)
+      → ¬ ForksEach (child ∷ []) start stop
+  a_child_that_was_not_forked none each = none each.0 each.1.0
+
+  a_parent_that_makes_a_step : ((next : Forking) → ¬ IsSameParent start.parent next.parent)
+      → ¬ ForksEach (child ∷ []) start stop
+  a_parent_that_makes_a_step none each = none each.0 each.1.1.0
+
+  a_seat_after_the_last_child : ((next : Forking) → stop ≢ next)
+      → ¬ ForksEach (child ∷ []) start stop
+  a_seat_after_the_last_child other each = other each.0 each.1.1.1
 
 module _ (before after : Unused) (holding : Holding) where
   -- nobody was made, and a pid, a Rendez or a note group was used up

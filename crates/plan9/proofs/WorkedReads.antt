@@ -14,7 +14,7 @@ use Rattle.plan9.specs.Pools.{Holding, got}
 use Rattle.plan9.specs.Readings.{ReadsBy}
 use Rattle.plan9.specs.Sharings.{AsksForTurn}
 use Rattle.plan9.specs.Streams.{Lent, Takes, TakesNothing, WritesNothing, WritesOnce, EndsWriting}
-use Rattle.plan9.specs.Streams.{front_of}
+use Rattle.plan9.specs.Streams.{WritesFront}
 
 -- who asks for a turn acquires the unit, or says why not
 who_asks_for_a_turn_acquires : (old new : Holding) (answer : Result ⊤ Fault)
@@ -46,6 +46,6 @@ module _ (old new : Writer) (bytes : List ℕ) (kept : Option Fault) (error : Er
   a_write_too_big_does_nothing wrote = wrote
 
   -- an error is of a write that was refused
-  an_error_of_no_write : ((why : Fault) → ¬ WritesOnce old (front_of bytes) (Err why) new)
+  an_error_of_no_write : ((why : Fault) → ¬ WritesFront old bytes (Err why) new)
       → ¬ EndsWriting old bytes (Err error) kept new
   an_error_of_no_write none (why, wrote, told) = none why wrote

@@ -23,20 +23,35 @@ module _ (old new : Running) (came : NoteSet) where
   notes_that_were_not_taken : new.process ≢ drains old.process came → ¬ Looks old came new
   notes_that_were_not_taken other looks = other looks.took
 
--- a beat stands still, or goes back, or says another moment than its own
-a_beat_that_stands_still : ¬ IsBeat 3 3 3
-a_beat_that_stands_still beat = let more = beat.on (omega arith) in omega (arith, more)
+module _ {Clock : Type 0} (old new : Beat Clock) where
+  -- a beat stands still, or goes back, or says another moment than its own
+  a_beat_that_stands_still : old.now ≡ 3 → ¬ IsBeat old 3 new
+  a_beat_that_stands_still at beat =
+      let more = beat.on (omega (arith, at)) in omega (arith, at, more)
 
-a_beat_that_goes_back : ¬ IsBeat 3 2 2
-a_beat_that_goes_back beat = let more = beat.on (omega arith) in omega (arith, more)
+  a_beat_that_goes_back : old.now ≡ 3 → ¬ IsBeat old 2 new
+  a_beat_that_goes_back at beat =
+      let more = beat.on (omega (arith, at)) in omega (arith, at, more)
 
-a_beat_that_says_another_moment : ¬ IsBeat 3 5 4
-a_beat_that_says_another_moment beat = let is : 5 ≡ 4 = beat.moment_is in omega (arith, is)
+  a_beat_that_says_another_moment : new.now ≡ 4 → ¬ IsBeat old 5 new
+  a_beat_that_says_another_moment at beat =
+      let is = ap (λ it. it.now) beat.beat_is in omega (arith, at, is)
+
+  -- it begins anew, or shows its moments nowhere any more
+  a_beat_that_begins_anew : new.began ≢ old.began → ¬ IsBeat old 5 new
+  a_beat_that_begins_anew other beat = other (ap (λ it. it.began) beat.beat_is)
+
+  a_beat_that_hides_its_moments : new.shown ≢ old.shown → ¬ IsBeat old 5 new
+  a_beat_that_hides_its_moments other beat = other (ap (λ it. it.shown) beat.beat_is)
 
 -- but at the last number it stands
-a_beat_that_stands_at_the_end :
-    IsBeat 18446744073709551615 18446744073709551615 18446744073709551615
-a_beat_that_stands_at_the_end = record { on = λ more. omega (arith, more); moment_is = refl }
+a_beat_that_stands_at_the_end : {Clock : Type 0} (beat : Beat Clock)
+    → beat.now ≡ 18446744073709551615 → IsBeat beat 18446744073709551615 beat
+a_beat_that_stands_at_the_end beat at =
+    record {
+      on = λ more. omega (arith, at, more);
+      beat_is = ap (λ now. record beat { now = now }) at;
+    }
 
 -- ---- a beat of real time
 

@@ -199,6 +199,15 @@ pub record ForksOneMore (old new : Forking) : Type 0 where
   pub forks : ForksHolder old.roster old.parent new.parent child new.roster
   pub same : IsSameParent old.parent new.parent
 
+-- these hold, forked one after the other by the same parent, which forked nothing else
+abbrev pub ForksEach : List Holding → Forking → Forking → Type 0
+ForksEach [] start stop = stop ≡ start
+ForksEach (child ∷ others) start stop =
+    (next : Forking)
+    × ForksHolder start.roster start.parent next.parent child next.roster
+    × IsSameParent start.parent next.parent
+    × ForksEach others next stop
+
 -- some children hold, which with their parent are fewer than this many, and then a child can't hold
 pub record StopsForking (count : ℕ) (start : Forking) (why : Fault) (stop : Forking) :
     Type 0 where
@@ -221,7 +230,7 @@ gathering pool running roster count =
     record { pool = pool; running = running; roster = roster; count = count }
 
 -- This many hold units of the pool, in the kernel of the roster but for the process that asks:
--- first its children, and then the process itself, as it was.
+-- first its children, and then the process itself, as it was. No other seat was given.
 pub record AreHolders (asked : Gathering) (holders : List Holding) (after : Unused) :
     Type 0 where
   pub count_is : length holders ≡ asked.count
@@ -231,6 +240,11 @@ pub record AreHolders (asked : Gathering) (holders : List Holding) (after : Unus
   pub others : List Holding
   pub made : AreChildren asked.roster asked.running.process.pid others after
   pub procs_are : procs_of_holders holders ≡ procs_of_holders others ++ asked.running ∷ []
+  pub first : Holding
+  pub last : Holding
+  pub first_is : IsFirstHolder asked.pool asked.running first
+  pub forked : ForksEach others (forking asked.roster first) (forking after last)
+  pub holders_are : holders ≡ others ++ last ∷ []
 
 -- no process is made: no holders are asked for, or too many
 pub record AsksTooMany (asked : Gathering) (after : Unused) (why : Fault) : Type 0 where

@@ -1,6 +1,6 @@
 -- What reads do that go on, after readn in read(2), said of single reads.
-use Rattle.std.specs.Prelude.{◌≡◌, ◌≢◌, ◌↔◌, ◌+◌, ◌++◌, ◌≤◌, ⊤, ℕ, List, [], length, take, drop}
-use Rattle.std.specs.Prelude.{Option, Some, None, Result, Ok, Err, IsErrOf}
+use Rattle.std.specs.Prelude.{◌≡◌, ◌≢◌, ◌↔◌, ◌+◌, ◌++◌, ◌<◌, ◌≤◌, ⊤, ℕ, List, [], length, take}
+use Rattle.std.specs.Prelude.{drop, Option, Some, None, Result, Ok, Err, IsErrOf}
 use Rattle.sync_base.specs.declared.fault.Fault.{Fault}
 use Rattle.sync_base.specs.declared.fault.Fault.TheVariants.{BadCount, NoRendez}
 use Rattle.block_queue.specs.Seats.{key_of}
@@ -60,26 +60,27 @@ abbrev pub filling : Reader → List ℕ → ℕ → Filling
 filling reader buffer count = record { reader = reader; buffer = buffer; count = count }
 
 -- a read into what is left of the buffer, after what is filled, with this answer
-pub record ReadsAfter (old : Filling) (answer : Result ReadAnswer Fault) (reader : Reader)
+pub record ReadsAfter (old : Filling) (answer : Result (Option ℕ) Fault) (reader : Reader)
     (buffer : List ℕ) : Type 0 where
   pub rest : List ℕ
-  pub read : ReadsBy old.reader (drop old.count old.buffer) answer reader rest
+  pub read : ReadsPiece old.reader (drop old.count old.buffer) answer reader rest
   pub buffer_is : buffer ≡ take old.count old.buffer ++ rest
 
 -- one read gave a piece
 pub record GoesOn (old new : Filling) : Type 0 where
   pub more : ℕ
-  pub reads : ReadsAfter old (Ok (read.Got more)) new.reader new.buffer
+  pub reads : ReadsAfter old (Ok (Some more)) new.reader new.buffer
   pub count_is : new.count ≡ old.count + more
 
 -- why no more came: the end, or a fault
-abbrev pub stopped : Option Fault → Result ReadAnswer Fault
-stopped None = Ok read.End
+abbrev pub stopped : Option Fault → Result (Option ℕ) Fault
+stopped None = Ok None
 stopped (Some fault) = Err fault
 
--- no piece came, after this many bytes
+-- the buffer was not full, and no piece came, after this many bytes
 pub record Stops (before : Filling) (short : ShortRead) (reader : Reader) (buffer : List ℕ) :
     Type 0 where
+  pub left : before.count < length before.buffer
   pub count_is : short.count ≡ before.count
   pub reads : ReadsAfter before (stopped short.fault) reader buffer
 

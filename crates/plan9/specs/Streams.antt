@@ -1,6 +1,6 @@
 -- What std's `Read` and `Write` do of a reader and a writer. After std::io.
-use Rattle.std.specs.Prelude.{◌≡◌, ◌⊎◌, ℕ, zero, suc, min, List, [], length, take}
-use Rattle.std.specs.Prelude.{Option, Some, None, Result, Ok, Err}
+use Rattle.std.specs.Prelude.{◌≡◌, ◌≢◌, ◌⊎◌, ◌↔◌, ℕ, zero, suc, min, List, [], length, take}
+use Rattle.std.specs.Prelude.{Option, Some, None, Result, Ok, Err, IsErrOf}
 use Rattle.std.specs.IoError.{error_kind}
 use Rattle.std.specs.declared.io.Error.{Error}
 use Rattle.std.specs.declared.io.ErrorKind.{ErrorKind}
@@ -9,6 +9,7 @@ use Rattle.sync_base.specs.declared.fault.Fault.{Fault}
 use Rattle.sync_base.specs.declared.fault.Fault.TheVariants as fault
 use Rattle.sync_base.specs.declared.limits.TheConstants.{ATOMIC_SIZE}
 use Rattle.pipe_dev.specs.Ends.{IsSameWriteEnd}
+use Rattle.pipe_dev.specs.Rendezes.{OwnsRow}
 use Rattle.pipe_dev.specs.Rounds.{Rounds}
 use Rattle.pipe_dev.specs.WriteCalls.{Writes, call_of, writer_of}
 use Rattle.plan9.specs.declared.pipes.Reader.{Reader}
@@ -56,9 +57,10 @@ EndsTaking old (Ok count) kept new = Takes old (Ok (piece_or_end count)) new
 EndsTaking old (Err error) kept new =
     (why : Fault) × Takes old (Err why) new × IsErrorFor why kept error
 
--- it passed the empty writes, and then it ended
+-- there is room, and it passed the empty writes, and then it ended
 pub record TakesNext (old : Lent) (answer : Result ℕ Error) (kept : Option Fault) (new : Lent) :
     Type 0 where
+  pub room : old.buffer ≢ []
   pub times : ℕ
   pub before : Lent
   pub passed : Rounds PassesEmpty times old before
@@ -92,14 +94,21 @@ abbrev pub WritesOnce : Writer → List ℕ → Result ℕ Fault → Writer → 
 WritesOnce old bytes answer new =
     Writes (call_of old.end bytes) (writer_of old.end old.proc) answer (writer_of new.end new.proc)
 
+-- one write of the first bytes, with this answer: it is not too big, and it is refused first by a
+-- process of a kernel that has too few Rendez for the direction
+pub record WritesFront (old : Writer) (bytes : List ℕ) (answer : Result ℕ Fault) (new : Writer) :
+    Type 0 where
+  pub too_big : ¬ IsErrOf answer fault.TooBig
+  pub no_rendez : IsErrOf answer fault.NoRendez ↔ ¬ OwnsRow old.proc.words old.end.row
+  pub wrote : WritesOnce old (front_of bytes) answer new
+
 -- the answer to that write, with this as the last fault after it: this many bytes, or an error
 abbrev pub EndsWriting :
     Writer → List ℕ → Result ℕ Error → Option Fault → Writer → Type 0
 EndsWriting old bytes (Ok count) kept new =
-    (count ≡ length (front_of bytes))
-    × ((number : ℕ) × WritesOnce old (front_of bytes) (Ok number) new)
+    (count ≡ length (front_of bytes)) × ((number : ℕ) × WritesFront old bytes (Ok number) new)
 EndsWriting old bytes (Err error) kept new =
-    (why : Fault) × WritesOnce old (front_of bytes) (Err why) new × IsErrorFor why kept error
+    (why : Fault) × WritesFront old bytes (Err why) new × IsErrorFor why kept error
 
 -- it is of the same end, and of the same kernel
 pub record IsSameWriter (old new : Writer) : Type 0 where
@@ -111,4 +120,5 @@ abbrev pub StreamsOut :
     Writer → List ℕ → Result ℕ Error → Option Fault → Writer → Type 0
 StreamsOut old bytes answer kept new =
     IsSameWriter old new
-    × (WritesNothing old bytes answer new ⊎ EndsWriting old bytes answer kept new)
+    × (WritesNothing old bytes answer new
+    ⊎ ((bytes ≢ []) × EndsWriting old bytes answer kept new))

@@ -19,10 +19,12 @@ pub record Looks (old : Running) (came : NoteSet) (new : Running) : Type 0 where
   pub words_are : new.words ≡ old.words
   pub took : new.process ≡ drains old.process came
 
--- a beat goes on, up to the last number, and returns where it is
-pub record IsBeat (old moment new : ℕ) : Type 0 where
-  pub on : old + 1 < 2 ^ 64 → old < new
-  pub moment_is : moment ≡ new
+-- a beat goes on, up to the last number, and returns where it is; where it began and where it
+-- shows its moments stay
+pub record IsBeat {Clock : Type 0} (old : Beat Clock) (moment : ℕ) (new : Beat Clock) :
+    Type 0 where
+  pub on : old.now + 1 < 2 ^ 64 → old.now < moment
+  pub beat_is : new ≡ record old { now = moment }
 
 -- moments are shown in an atomic, which is this one
 abbrev pub IsShownAt : {Atomic : Type 0} → Atomic → Option (Bor Atomic) → Type 0

@@ -356,6 +356,7 @@ impl<'s, 'k> Guest<'s, 'k> {
     /// its members; the process comes back. It waits for the space's lock. Takes no memory.
     pub fn join<R: Wait>(&mut self, rt: &R, proc: Proc<'k>) -> Result<Guest<'s, 'k>, Refused<'k>>
         ensures same { IsSameGuest self.old self.new }
+        ensures process { self.new.running ≡ self.old.running }
         ensures fault { IfErr result
             (ComesBack (WhyNoGuest self.old self.new proc.entry) proc.entry) }
         ensures further { IfOk result (IsFurtherGuest self.old self.new proc.entry) }

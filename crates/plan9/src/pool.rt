@@ -4,7 +4,14 @@ ghost use Rattle.std.specs.Prelude.{◌≡◌, ◌≤◌, ◌<◌, ◌+◌, ◌�
 ghost use Rattle.std.specs.List.{AllByRecursion};
 ghost use Rattle.std.specs.Vec.{vec_capacity};
 ghost use Rattle.rendez_words.specs.Words.{rendez_of};
-ghost use Rattle.plan9.specs.Pools.{AreChildren, IsSameParent, MayHold, StopsForking, forking};
+ghost use Rattle.plan9.specs.Pools.{
+  AreChildren,
+  ForksEach,
+  IsSameParent,
+  MayHold,
+  StopsForking,
+  forking,
+};
 
 use crate::clock::Watch;
 use crate::refusals::Refused;
@@ -261,6 +268,8 @@ fn fork_others<'s, 'k, R: Wait>(
     // Those that were made hold, each a child with the next pid, and there is room for the first.
     ensures made { OnOk result (AreChildren roster.old first.old.running.process.pid
         holders.new.items roster.new) }
+    ensures forked { OnOk result (ForksEach holders.new.items (forking roster.old first.old)
+        (forking roster.new first.new)) }
     ensures counted { OnOk result (length holders.new.items + 1 ≡ count) }
     ensures room { count ≤ vec_capacity holders.new }
     ensures at_sema { AllByRecursion (λ holding. holding.sema ≡ first.old.sema)

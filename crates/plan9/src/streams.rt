@@ -115,6 +115,7 @@ impl<'r, 'p, 'k, R: Wait> Write for WriteStream<'r, 'p, 'k, R> {
     /// Writes the first 65,536 bytes, or all where there are fewer, as one write, and returns how
     /// many; no bytes are no write. It waits, and takes memory, as `Writer::write`. A fault is
     /// kept, and the error chosen, as in `ReadStream`.
+    #[tactic(auto, using(crate::proofs::StreamLemmas::writes_front))]
     fn write(&mut self, buf: &[u8]) -> io::Result<usize>
         ensures bound { WritesAtMost result buf.now }
         ensures bytes { WriteAppends None None result buf.now }

@@ -108,13 +108,13 @@ fn begun<R: Clock>(rt: &R, began: Option<Instant>) -> Option<u64> {
 impl<'r, R: Clock> TickSource for Beat<'r, R> {
     ghost use Rattle.plan9.specs.Tickers.{IsBeat};
 
-    ghost tells = { λ old moment new. IsBeat old.now moment new.now };
+    ghost tells = { λ old moment new. IsBeat old moment new };
 
     /// Sleeps for a millisecond, and returns how many have passed since it began: more than it
     /// returned before, up to the last number. Where the clock can't be read it counts each sleep
     /// as one. A note does not end the sleep. Takes no memory.
     fn next(&mut self) -> u64
-        ensures told { IsBeat self.old.now result self.new.now }
+        ensures told { IsBeat self.old result self.new }
     {
         sleep(self.rt, Duration::from_millis(1));
         let counted = self.now.saturating_add(1);

@@ -2,6 +2,7 @@
 //! writer; and two readers of one end, on threads of their own.
 use crate::kernels::{forked, kernel_of};
 use crate::pipes::pipe_of;
+use plan9::limits::ATOMIC_SIZE;
 use plan9::{
     Ends, Fault, Note, NoteSet, OpenedKernel, OpenedPipe, Parts, ReadAnswer, ReadEnd, ReadStream,
     Reader, Roster, Shared, Sharer, Started, WriteStream, Writer,
@@ -27,6 +28,16 @@ fn end_a_read_by_a_note<R: Wait + Abort>(
     assert_eq!(rt; error.kind(), ErrorKind::Other);
     assert_eq!(rt; from.fault, Some(Fault::Interrupted(alarm)));
     assert!(rt; matches!(from.read(&mut []), Ok(0)));
+}
+
+// No bytes are no read and no write, of a stream that no fault has come to.
+fn read_and_write_no_bytes<R: Wait + Abort>(
+    rt: &R,
+    from: &mut ReadStream<'_, '_, '_, R>,
+    to: &mut WriteStream<'_, '_, '_, R>,
+) {
+    assert!(rt; matches!(from.read(&mut []), Ok(0)));
+    assert!(rt; matches!(to.write(&[]), Ok(0)));
 }
 
 // Seven bytes in two writes, and an empty one between them, which is no end.
@@ -124,10 +135,49 @@ fn std_reads_and_writes_a_pipe(rt: HostRuntime) {
     let Started { roster: _, proc } = started;
     let mut from = ReadStream::new(&rt, Reader::new(reader, proc));
     let mut to = WriteStream::new(alloc, &rt, writer);
+    read_and_write_no_bytes(&rt, &mut from, &mut to);
     end_a_read_by_a_note(&rt, &mut from, &mut to);
     write_all_of_it(&rt, alloc, &mut to);
     read_to_the_end(&rt, alloc, &mut from);
     write_after_the_hangup(&rt, &mut to);
+}
+
+// Two writes take a byte more than the atomic size, and all of it is read.
+fn write_more_than_one_takes<R: Wait + Abort>(
+    rt: &R,
+    alloc: Global,
+    from: &mut ReadStream<'_, '_, '_, R>,
+    to: &mut WriteStream<'_, '_, '_, R>,
+) {
+    let Ok(bytes) = vec![in alloc; 7; ATOMIC_SIZE as usize + 1] else {
+        return;
+    };
+    assert!(rt; to.write_all(bytes.as_slice()).is_ok());
+    assert_eq!(rt; to.writer.write(alloc, rt, &[]), Ok(3));
+    to.writer.hangup();
+    let mut buffer = [0; 8];
+    let mut count = 0usize;
+    for _ in rt.forever() {
+        match from.read(&mut buffer) {
+            Ok(0) => break,
+            Ok(more) => count = count.saturating_add(more),
+            Err(_) => panic!(rt; "no fault comes"),
+        }
+    }
+    assert_eq!(rt; count, bytes.len());
+}
+
+#[test]
+fn a_write_of_all_is_as_many_writes_as_it_takes(rt: HostRuntime) {
+    let alloc = rt.alloc();
+    let OpenedKernel { kernel, start } = kernel_of(&rt, alloc, 2, 4);
+    let mut started = kernel.start(start);
+    let OpenedPipe { pipe, start } = pipe_of(&rt, alloc, &mut started.roster, 4, 1);
+    let Pair { reader, writer } = pair_of(&rt, &mut started, pipe.ends(start));
+    let Started { roster: _, proc } = started;
+    let mut from = ReadStream::new(&rt, Reader::new(reader, proc));
+    let mut to = WriteStream::new(alloc, &rt, writer);
+    write_more_than_one_takes(&rt, alloc, &mut from, &mut to);
 }
 
 // Reads to the end, and counts what comes: each read is one whole write of two bytes.

@@ -150,6 +150,22 @@ fn real_time_goes_on_between_beats(rt: HostRuntime) {
     );
 }
 
+// Where its clock can't be read, real time is at the last moment of its beat.
+#[test]
+fn a_beat_shows_each_moment(rt: HostRuntime) {
+    let hands = Hands {
+        micros: AtomicU64::new(0),
+        sleeps: AtomicU64::new(0),
+        longer: 0,
+        is_seen: false,
+    };
+    let time = RealTime::new(&hands);
+    let mut beat = time.beat(&hands);
+    for moment in 1..4 {
+        assert_eq!(rt; (beat.next(), time.now(&hands)), (moment, moment));
+    }
+}
+
 #[test]
 fn a_shared_moment_is_not_behind_its_beat(rt: HostRuntime) {
     let time = RealTime::new(&rt);

@@ -1,7 +1,8 @@
 -- one more holds; or one does not, after those that do
 use Rattle.std.proofs.Common.{◌≡◌, ◌∙◌, ap, arith, length}
 use Rattle.plan9.specs.Pools.{forking}
-use Rattle.plan9.proofs.PoolLemmas.{all_and_one, forked_one_more, one_child_more, one_longer}
+use Rattle.plan9.proofs.PoolLemmas.{all_and_one, forked_one_more, one_child_more}
+use Rattle.plan9.proofs.PoolLemmas.{one_each_more, one_longer}
 use Rattle.plan9.proofs.pool.fork_others.Goals as goal
 
 pub returns-in-Err-clause-fault : goal.returns-in-Err-clause-fault
@@ -46,6 +47,10 @@ forking-preserved g c =
           c.args.first.now.running.process.pid c.forking.first c.fork.new.self c.in-Ok.child
           c.forking.holders.items c.push_reserved.new.self.items items
           (ap (λ running. running.process.pid) held.first_is) held.made forks;
+      each = one_each_more (forking c.args.roster.now c.args.first.now)
+          (forking c.forking.roster c.forking.first) (forking c.fork.new.roster c.fork.new.self)
+          c.forking.holders.items c.push_reserved.new.self.items c.in-Ok.child items
+          held.each forks c.fork.ensures.same;
       forked = forked_one_more (forking c.args.roster.now c.args.first.now)
           (forking c.forking.roster c.forking.first) (forking c.fork.new.roster c.fork.new.self)
           c.forking.holders.items c.push_reserved.new.self.items c.in-Ok.child items

@@ -3,7 +3,7 @@ use Rattle.std.proofs.Common.{◌≡◌, ◌≤◌, ◌+◌, length}
 use Rattle.std.specs.List.{AllByRecursion}
 use Rattle.std.specs.Vec.{vec_capacity}
 use Rattle.pipe_dev.specs.Rounds.{Rounds}
-use Rattle.plan9.specs.Pools.{AreChildren, ForksOneMore, forking}
+use Rattle.plan9.specs.Pools.{AreChildren, ForksEach, ForksOneMore, forking}
 use Rattle.plan9.proofs.pool.fork_others.Given as goal
 
 abbrev pub invariant-forking : goal.invariant-forking
@@ -20,6 +20,7 @@ invariant-forking g l =
       first_at : l.first.sema ≡ l.fn.first.sema;
       first_is : l.first.running ≡ l.fn.first.running;
       made : AreChildren l.fn.roster l.fn.first.running.process.pid l.holders.items l.roster;
+      each : ForksEach l.holders.items (forking l.fn.roster l.fn.first) (forking l.roster l.first);
       forked : Rounds ForksOneMore (length l.holders.items)
           (forking l.fn.roster l.fn.first) (forking l.roster l.first);
     }

@@ -20,14 +20,14 @@ returns-in-Ok-None g c =
     at_the_end (filling c.args.self.now c.args.buffer.now 0)
     (filling c.reading.self c.reading.buffer c.reading.count)
     c.next_piece.result c.next_piece.new.self c.next_piece.new.buffer
-    c.reading.invariant.so_far came c.next_piece.ensures refl
+    c.reading.invariant.so_far came c.next_piece.ensures refl c.if-count-buffer.false
 
 pub returns-in-Err : goal.returns-in-Err
 returns-in-Err g c =
     at_a_fault (filling c.args.self.now c.args.buffer.now 0)
     (filling c.reading.self c.reading.buffer c.reading.count)
     c.next_piece.result c.in-Err.fault c.next_piece.new.self c.next_piece.new.buffer
-    c.reading.invariant.so_far c.in-Err.is c.next_piece.ensures refl
+    c.reading.invariant.so_far c.in-Err.is c.next_piece.ensures refl c.if-count-buffer.false
 
 pub returns-then-count-buffer : goal.returns-then-count-buffer
 returns-then-count-buffer g c =

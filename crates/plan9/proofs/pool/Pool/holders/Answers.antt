@@ -33,6 +33,19 @@ returns-in-Ok-fork_others-clause-holders g c =
       made = c.in-Ok-fork_others.ensures.made;
       procs_are = ap procs_of_holders items ∙ procs_of_both children (last ∷ [])
           ∙ ap (λ running. procs_of_holders children ++ running ∷ []) same_running;
+      first = record {
+        sema = c.self.inside.sema;
+        running = c.args.proc;
+        seat = c.in-Ok.begun.seat;
+      };
+      last = last;
+      first_is = record {
+        sema_is = sema_is;
+        running_is = refl;
+        seat_is = c.in-Ok.ensures.seat.seat_is;
+      };
+      forked = c.in-Ok-fork_others.ensures.forked;
+      holders_are = items;
     }
 
 pub returns-clause-fault : goal.returns-clause-fault
