@@ -37,3 +37,16 @@ still_written read old new all same =
       );
       order = ap (λ (writer : ℕ). writer ∷ []) same.writer ∙ all.order;
     }
+
+-- calls of both, each of which stays where it is
+pub still_both : (before after : ReadSide) (old new : WriteSide)
+    → AreAllEnds before (old ∷ []) → IsSameReadEnd before after → IsSameWriteEnd old new
+    → AreAllEnds after (new ∷ [])
+still_both before after old new all read write =
+    still_written after old new (still_read before after old all read) write
+
+-- two calls of a read end, one after the other, leave it where it is
+pub read_on : (old middle new : ReadSide)
+    → IsSameReadEnd old middle → IsSameReadEnd middle new → IsSameReadEnd old new
+read_on old middle new first second =
+    record { queue = second.queue ∙ first.queue; row = second.row ∙ first.row }

@@ -67,10 +67,10 @@ use Deed::{FindsNothing, IsRefused, ReaderHangsUp, Reads, ReadsBlock, WriterHang
 /// What a direction still held: whether it was hung up, what was left of a write that was begun,
 /// and each write that no read had begun, with its writer.
 #[derive(Clone, Copy)]
-struct Left {
-    hung: bool,
-    rest: &'static [u8],
-    writes: &'static [(u64, &'static [u8])],
+pub struct Left {
+    pub hung: bool,
+    pub rest: &'static [u8],
+    pub writes: &'static [(u64, &'static [u8])],
 }
 
 /// A direction with one writer, what is done at it, and what it holds at last.
@@ -84,10 +84,10 @@ struct Life {
 
 /// All ends of a direction with one writer, and the process that calls at them.
 #[derive(Drop)]
-struct Line<'p, 'k> {
-    read: ReadEnd<'p>,
-    write: WriteEnd<'p>,
-    proc: Proc<'k>,
+pub struct Line<'p, 'k> {
+    pub read: ReadEnd<'p>,
+    pub write: WriteEnd<'p>,
+    pub proc: Proc<'k>,
     ghost all: { AreAllEnds read (write ∷ []) },
 }
 
@@ -207,9 +207,9 @@ impl Line<'_, '_> {
         self.write.hangup(&mut self.proc);
     }
 
-    // What it holds when all its ends are given back. Where memory is refused the ends that come
-    // back are given back again.
-    fn finish(self, alloc: Global) -> Option<Held> {
+    /// What it holds when all its ends are given back. Where memory is refused the ends that come
+    /// back are given back again.
+    pub fn finish(self, alloc: Global) -> Option<Held> {
         let Line { read, write, .. } = self;
         let mut writes = room_for_one(alloc)?;
         writes.push_reserved(write);
@@ -220,8 +220,8 @@ impl Line<'_, '_> {
     }
 }
 
-// Whether it is just this.
-fn is_left(held: &Held, left: &Left) -> bool {
+/// Whether it is just this.
+pub fn is_left(held: &Held, left: &Left) -> bool {
     let mut is_so = held.hung == left.hung && held.rest.as_slice() == left.rest;
     is_so = is_so && held.writes.len() == left.writes.len();
     for (stored, (writer, bytes)) in held.writes.iter().zip(left.writes.iter()) {
@@ -230,8 +230,8 @@ fn is_left(held: &Held, left: &Left) -> bool {
     is_so
 }
 
-// A pipe with one writer.
-fn pipe_of<'p>(
+/// A pipe with one writer.
+pub fn pipe_of<'p>(
     alloc: Global,
     roster: &mut Roster<'_>,
     mode: Mode,
@@ -251,9 +251,9 @@ fn pipe_of<'p>(
     }
 }
 
-// All ends of a direction of a pipe with one writer.
+/// All ends of a direction of a pipe with one writer.
 #[tactic(auto, using(crate::proofs::EndLemmas::only_one))]
-fn line_of<'p, 'k>(pipe: &'p Pipe, start: PipeStart<'p>, proc: Proc<'k>) -> Option<Line<'p, 'k>>
+pub fn line_of<'p, 'k>(pipe: &'p Pipe, start: PipeStart<'p>, proc: Proc<'k>) -> Option<Line<'p, 'k>>
     requires { IsPipeStart pipe.now start }
 {
     let Ends { first, second } = pipe.ends(start);
@@ -507,6 +507,11 @@ fn a_finish_gives_what_the_direction_still_held(rt: HostRuntime) {
     for (at, life) in LIVES.iter().enumerate() {
         assert!(rt; is_lived(&rt, rt.alloc(), *life), "life {at}");
     }
+}
+
+#[test]
+fn an_open_direction_holds_the_rest_of_its_write(rt: HostRuntime) {
+    assert!(rt; is_lived(&rt, rt.alloc(), &REST_ALONE));
 }
 
 #[test]

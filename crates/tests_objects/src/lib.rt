@@ -3,10 +3,13 @@
 //! machine of sleep and wakeup; `words`, the same on shared words; `locks` and `rooms`, objects
 //! under a lock; `rings`, which plays calls at a queue of blocks, with `ring_rows` and
 //! `lone_rings`; `finishes`, what a direction of a pipe still held when all its ends are given
-//! back; `spaces`, where calls meet by tags; `units` and `timers`, of semaphores; `devices`,
-//! scripts on streams that fail; and `sizes`, what no program makes at each size.
+//! back, with `cut_writes`, the same after a hangup cut a long write; `spaces`, where calls meet by
+//! tags; `units` and `timers`, of semaphores; `devices`, scripts on streams that fail; and `sizes`,
+//! what no program makes at each size.
 #![tactic(auto)]
 
+#[cfg(test)]
+mod cut_writes;
 #[cfg(test)]
 mod devices;
 #[cfg(test)]

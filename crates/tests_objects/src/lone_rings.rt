@@ -6,7 +6,7 @@ ghost use Rattle.std.specs.Vec.{vec_capacity};
 ghost use Rattle.block_queue.specs.Gather.{AreAllSeats};
 ghost use Rattle.block_queue.specs.Seats.{IsPutSeatOf, IsTakeSeatOf};
 
-use crate::rings::Reply::{self, Block, Full, Hungup, Taken};
+use crate::rings::Reply::{self, Block, End, Full, Hungup, NotYet, Taken, Worn};
 use crate::rings::{block_of, is_put, is_take, opened};
 use block_queue::{Gathered, Opened, PutSeat, Queue, Spare, TakeAnswer, TakeSeat, Ungathered};
 use std::alloc::Global;
@@ -34,11 +34,12 @@ enum Deed {
     /// A take whose block's memory is given back.
     TakesBack(Reply),
     HangsUp,
+    ReaderHangsUp,
     /// The memory that its writer keeps has room for this many bytes.
     HasRoom(usize),
 }
 
-use Deed::{HangsUp, HasRoom, Puts, Takes, TakesBack};
+use Deed::{HangsUp, HasRoom, Puts, ReaderHangsUp, Takes, TakesBack};
 
 /// What is left of it at last: whether it was hung up, and each block that is left.
 #[derive(Clone, Copy)]
@@ -51,7 +52,8 @@ struct Left {
 #[derive(Clone, Copy)]
 struct Life {
     limit: u64,
-    first: u64,
+    /// How many blocks were counted before, or `Queue::new` makes it.
+    first: Option<u64>,
     deeds: &'static [Deed],
     left: Left,
 }
@@ -65,6 +67,10 @@ impl Lone {
             TakesBack(wanted) => self.takes_back(wanted),
             HangsUp => {
                 self.queue.hang_put(&mut self.put);
+                true
+            }
+            ReaderHangsUp => {
+                self.queue.hang_take(&mut self.take);
                 true
             }
             HasRoom(wanted) => room_in(&mut self.put, alloc) == wanted,
@@ -173,9 +179,32 @@ fn live<R: Wait + Abort>(rt: &R, alloc: Global, life: &Life) {
     assert!(rt; lone.leaves(alloc, life.left));
 }
 
+const LAST_NUMBER: Life = Life {
+    limit: 2,
+    first: Some(LAST_WRITE - 1),
+    deeds: &[
+        Puts(b"a", Taken(LAST_WRITE)),
+        Puts(b"b", Worn),
+        Takes(Block(0, LAST_WRITE, b"a")),
+        Takes(NotYet(LAST_WRITE)),
+        ReaderHangsUp,
+        Puts(b"b", Hungup),
+        Takes(End),
+    ],
+    left: Left {
+        hung: true,
+        blocks: &[],
+    },
+};
+
+#[test]
+fn the_last_number_is_given_once(rt: HostRuntime) {
+    live(&rt, rt.alloc(), &LAST_NUMBER);
+}
+
 const ONE_PLACE: Life = Life {
     limit: 1,
-    first: 0,
+    first: None,
     deeds: &[
         Puts(b"a", Taken(1)),
         Puts(b"b", Full(0)),
@@ -195,7 +224,7 @@ fn a_queue_of_one_place_is_full_with_one_block(rt: HostRuntime) {
 
 const READ_AND_BACK: Life = Life {
     limit: 1,
-    first: 0,
+    first: Some(0),
     deeds: &[
         Puts(b"abcdef", Taken(1)),
         TakesBack(Block(0, 1, b"abcdef")),
@@ -221,7 +250,7 @@ fn a_block_that_was_read_comes_back(rt: HostRuntime) {
 
 const HUNG_UP: Life = Life {
     limit: 3,
-    first: 7,
+    first: Some(7),
     deeds: &[
         Puts(b"a", Taken(8)),
         Puts(b"", Taken(9)),
@@ -256,11 +285,26 @@ fn why_no_queue(alloc: Global, limit: u64, writers: u64, first: u64) -> Option<F
     Queue::new_from(alloc, limit, writers, first).err()
 }
 
+/// The same for `Queue::new`.
+const NO_NEW_QUEUES: [(u64, u64); 5] = [(0, 1), (1, 65), (1_025, 1), (1, 0), (0, 65)];
+
+fn why_no_new_queue(alloc: Global, limit: u64, writers: u64) -> Option<Fault> {
+    Queue::new(alloc, limit, writers).err()
+}
+
 #[test]
 fn sizes_out_of_range_are_refused(rt: HostRuntime) {
     for (limit, writers, first, fault) in NO_QUEUES {
         let why = why_no_queue(rt.alloc(), limit, writers, first);
         assert_eq!(rt; why, Some(fault), "{limit} for {writers}");
+    }
+}
+
+#[test]
+fn no_new_queue_has_sizes_out_of_range(rt: HostRuntime) {
+    for (limit, writers) in NO_NEW_QUEUES {
+        let why = why_no_new_queue(rt.alloc(), limit, writers);
+        assert_eq!(rt; why, Some(Fault::BadSize), "{limit} for {writers}");
     }
 }
 
@@ -273,7 +317,7 @@ fn are_in_turn(rt: &impl Abort, puts: &[PutSeat]) {
 
 #[test]
 fn the_largest_sizes_are_taken(rt: HostRuntime) {
-    let Opened { puts, .. } = opened(&rt, rt.alloc(), 1_024, 64, 0);
+    let Opened { puts, .. } = opened(&rt, rt.alloc(), 1_024, 64, Some(0));
     assert_eq!(rt; puts.len(), 64);
     are_in_turn(&rt, puts.as_slice());
 }

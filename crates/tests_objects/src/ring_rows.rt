@@ -25,25 +25,6 @@ const ENDED: Line = Plain(Take, End);
 /// The points of a put that begins once and is taken.
 const ALL: &[u64] = &[1, 2, 3, 4, 5, 6];
 
-const LAST_NUMBER: &[Case] = &[Case {
-    limit: 2,
-    first: LAST_WRITE - 1,
-    lines: &[
-        Plain(A, Taken(LAST_WRITE)),
-        Plain(B, Worn),
-        Plain(Take, Block(0, LAST_WRITE, b"a")),
-        Plain(Take, NotYet(LAST_WRITE)),
-        Plain(HangTake, Hung),
-        Plain(B, Hungup),
-        ENDED,
-    ],
-}];
-
-#[test]
-fn the_last_number_is_given_once(rt: HostRuntime) {
-    play(&rt, rt.alloc(), LAST_NUMBER);
-}
-
 // A put of `a` into an empty queue that is hung up at a point, and two takes after it.
 macro_rules! hung_at {
     ($point:expr, $reply:expr, $points:expr, $taken:expr) => {
@@ -302,7 +283,7 @@ fn a_take_frees_its_place_after_its_fourth_point(rt: HostRuntime) {
 
 #[test]
 fn a_take_passes_its_points_after_many_blocks(rt: HostRuntime) {
-    let Opened { queue, take, puts } = opened(&rt, rt.alloc(), 2, 2, 0);
+    let Opened { queue, take, puts } = opened(&rt, rt.alloc(), 2, 2, Some(0));
     let mut seats = seats_of(&queue, take, puts);
     for number in 1..=12 {
         let block = Block(0, number, b"a");

@@ -325,21 +325,33 @@ impl<R: Wait> Probe for Points<'_, '_, '_, R> {
     }
 }
 
-// A queue of this limit, in which so many blocks were counted before.
-fn made(alloc: Global, limit: u64, writers: u64, first: u64) -> Result<Opened, Fault>
+// A queue of this limit, in which so many blocks were counted before, or that `Queue::new` makes.
+fn made(alloc: Global, limit: u64, writers: u64, first: Option<u64>) -> Result<Opened, Fault>
     ensures take { IfOk result (λ opened. IsTakeSeatOf opened.queue opened.take) }
     ensures puts { IfOk result (λ opened.
         AllByRecursion (IsPutSeatOf opened.queue) opened.puts.items) }
     ensures all { IfOk result (λ opened. AreAllSeats opened.take opened.puts.items) }
 {
-    match Queue::new_from(alloc, limit, writers, first) {
-        Ok(opened) => Ok(opened),
-        Err(fault) => Err(fault),
+    match first {
+        Some(first) => match Queue::new_from(alloc, limit, writers, first) {
+            Ok(opened) => Ok(opened),
+            Err(fault) => Err(fault),
+        },
+        None => match Queue::new(alloc, limit, writers) {
+            Ok(opened) => Ok(opened),
+            Err(fault) => Err(fault),
+        },
     }
 }
 
 /// The same. Where memory is refused it is asked for once more.
-pub fn opened(rt: &impl Abort, alloc: Global, limit: u64, writers: u64, first: u64) -> Opened
+pub fn opened(
+    rt: &impl Abort,
+    alloc: Global,
+    limit: u64,
+    writers: u64,
+    first: Option<u64>,
+) -> Opened
     ensures take { IsTakeSeatOf result.queue result.take }
     ensures puts { AllByRecursion (IsPutSeatOf result.queue) result.puts.items }
     ensures all { AreAllSeats result.take result.puts.items }
@@ -378,7 +390,7 @@ pub fn play<R: Wait + Abort>(rt: &R, alloc: Global, cases: &[Case]) {
 }
 
 fn play_case<R: Wait + Abort>(rt: &R, alloc: Global, case: &Case, number: usize) {
-    let Opened { queue, take, puts } = opened(rt, alloc, case.limit, 2, case.first);
+    let Opened { queue, take, puts } = opened(rt, alloc, case.limit, 2, Some(case.first));
     let mut seats = seats_of(&queue, take, puts);
     play_lines(rt, alloc, &mut seats, case.lines, number);
 }
