@@ -46,7 +46,7 @@ each_and_one [] child start before after same forks parent = (
   subst (λ (it : Forking). IsSameParent it.parent after.parent) same parent,
   refl,
 )
-each_and_one (other ∷ holders) child start before after (next, (first, (kept, rest))) forks same =
+each_and_one (other ∷ holders) child start before after (next, first, kept, rest) forks same =
     (next, first, kept, each_and_one holders child next before after rest forks same)
 
 -- the same, of the list with one more

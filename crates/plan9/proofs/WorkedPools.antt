@@ -244,15 +244,15 @@ module _ (start stop : Forking) (child : Holding) where
   a_child_that_was_not_forked : ((next : Forking)
       → ¬ ForksHolder start.roster start.parent next.parent child next.roster)
       → ¬ ForksEach (child ∷ []) start stop
-  a_child_that_was_not_forked none each = none each.0 each.1.0
+  a_child_that_was_not_forked none each = none each.0 each.1
 
   a_parent_that_makes_a_step : ((next : Forking) → ¬ IsSameParent start.parent next.parent)
       → ¬ ForksEach (child ∷ []) start stop
-  a_parent_that_makes_a_step none each = none each.0 each.1.1.0
+  a_parent_that_makes_a_step none each = none each.0 each.2
 
   a_seat_after_the_last_child : ((next : Forking) → stop ≢ next)
       → ¬ ForksEach (child ∷ []) start stop
-  a_seat_after_the_last_child other each = other each.0 each.1.1.1
+  a_seat_after_the_last_child other each = other each.0 each.3
 
 module _ (before after : Unused) (holding : Holding) where
   -- nobody was made, and a pid, a Rendez or a note group was used up
