@@ -9,7 +9,7 @@ use Rattle.sync_base.specs.declared.ids.RendezId.{RendezId}
 use Rattle.sleep_wakeup.specs.Kernel.{Running}
 use Rattle.timer_list.specs.declared.timers.TimerSeat.{TimerSeat}
 use Rattle.timer_list.specs.Timers.{deadline_of}
-use Rattle.timer_list.specs.Timing.{TimedPoint, TimedThroughout}
+use Rattle.timer_list.specs.Timing.{TimedPoint, TimedCall}
 use Rattle.waiting.specs.Waiting.{Promise}
 use Rattle.plan9.specs.declared.pipes.Reader.{Reader}
 use Rattle.plan9.specs.declared.pipes.Writer.{Writer}
@@ -113,9 +113,9 @@ module _ (watch : Watching) where
 -- ---- a call with a watch
 
 module _ (watch : Watching) (now ms : ℕ) where
-  -- it did not wait until that moment at those timers, with its timer whenever it slept
+  -- it did not wait until that moment at those timers
   runs_in_no_way : {Seat Out : Type 0} (promise : Promise Seat Out) (rendez : RendezId)
       (old new : TimedPoint Seat) (answer : Result Out Fault)
-      → ¬ TimedThroughout promise rendez watch.timers (deadline_of now ms) old answer new
+      → ¬ TimedCall promise rendez watch.timers (deadline_of now ms) old answer new
       → ¬ (until watch now ms).ran promise rendez old answer new
   runs_in_no_way promise rendez old new answer waited ran = waited ran

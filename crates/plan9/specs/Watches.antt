@@ -9,7 +9,7 @@ use Rattle.timer_list.specs.declared.timers.Timers.{Timers}
 use Rattle.timer_list.specs.declared.timers.TimerSeat.{TimerSeat}
 use Rattle.timer_list.specs.Seats.{AreNewTimers, IsTimerSeatOf}
 use Rattle.timer_list.specs.Timers.{deadline_of}
-use Rattle.timer_list.specs.Timing.{TimedPoint, timed_throughout}
+use Rattle.timer_list.specs.Timing.{TimedPoint, until_a_moment}
 use Rattle.waiting.specs.Runners.{Runs, run_point}
 use Rattle.semaphore.specs.declared.sema.SemaSeat.{SemaSeat}
 use Rattle.tag_space.specs.declared.member.Member.{Member}
@@ -92,7 +92,6 @@ watched_write writer watch = run_writer writer.end watch.seat writer.proc
 
 -- ---- a call with a watch
 
--- it waits until this many milliseconds after now, at the timers of the watch, and has its timer
--- whenever it sleeps
+-- it waits until this many milliseconds after now, at the timers of the watch
 abbrev pub until : Watching → ℕ → ℕ → Runs TimerSeat
-until watch now ms = timed_throughout watch.timers (deadline_of now ms)
+until watch now ms = until_a_moment watch.timers (deadline_of now ms)

@@ -89,7 +89,7 @@ impl<'t> Watch<'t> {
     ghost use Rattle.timer_list.specs.Sleeping.{sleeping};
     ghost use Rattle.timer_list.specs.Ticking.{Ticks};
     ghost use Rattle.timer_list.specs.Timers.{deadline_of};
-    ghost use Rattle.timer_list.specs.Timing.{TimedThroughout};
+    ghost use Rattle.timer_list.specs.Timing.{TimedCall};
     ghost use Rattle.waiting.specs.Waiting.{point};
     ghost use Rattle.plan9.specs.Watches.{
       IsFurtherWatch,
@@ -161,7 +161,7 @@ impl<'t> Watch<'t> {
 
         // Else it slept, with its timer set.
         ensures slept { rendez.0 < rendez_of proc.old.words → threshold < TOP_LEVEL
-            → TimedThroughout (sleeping threshold) rendez self.old.timers (deadline_of now ms)
+            → TimedCall (sleeping threshold) rendez self.old.timers (deadline_of now ms)
             (watched_sleeper proc.old self.old) result (watched_sleeper proc.new self.new) }
     {
         self.timers

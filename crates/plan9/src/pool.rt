@@ -303,8 +303,9 @@ impl<'s, 'k> Holder<'s, 'k> {
     ghost use Rattle.semaphore.specs.Acquiring.{Semacquires};
     ghost use Rattle.semaphore.specs.Releasing.{Releases};
     ghost use Rattle.semaphore.specs.Seats.{rendez_at};
-    ghost use Rattle.semaphore.specs.Timing.{AcquiresBy};
-    ghost use Rattle.plan9.specs.Watches.{IsSameWatch, until, watched_point};
+    ghost use Rattle.timer_list.specs.Timers.{deadline_of};
+    ghost use Rattle.semaphore.specs.Timing.{TimedAcquire};
+    ghost use Rattle.plan9.specs.Watches.{IsSameWatch, watched_point};
     ghost use Rattle.plan9.specs.Refusals.{ComesBack};
     ghost use Rattle.plan9.specs.Pools.{
       ForksHolder,
@@ -397,7 +398,7 @@ impl<'s, 'k> Holder<'s, 'k> {
     ) -> Result<(), Fault>
         ensures same { IsSameHolder self.old self.new }
         ensures watch { IsSameWatch watch.old watch.new }
-        ensures called { AcquiresBy (until watch.old now ms) self.old.sema
+        ensures called { TimedAcquire self.old.sema watch.old.timers (deadline_of now ms)
             (watched_point self.old watch.old) result (watched_point self.new watch.new) }
     {
         self.acquire_within_probed(rt, watch, now, ms, &mut NoProbe)
@@ -415,7 +416,7 @@ impl<'s, 'k> Holder<'s, 'k> {
     ) -> Result<(), Fault>
         ensures same { IsSameHolder self.old self.new }
         ensures watch { IsSameWatch watch.old watch.new }
-        ensures called { AcquiresBy (until watch.old now ms) self.old.sema
+        ensures called { TimedAcquire self.old.sema watch.old.timers (deadline_of now ms)
             (watched_point self.old watch.old) result (watched_point self.new watch.new) }
     {
         self.sema.tsemacquire_probed(
