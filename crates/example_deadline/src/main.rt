@@ -1,10 +1,10 @@
-//! A desk with deadlines. One client gives up, and another is cancelled. The first asks again when
-//! the desk is free, and is served.
+//! A desk with deadlines. A clerk has it, and tells the time. One client gives up and complains:
+//! the clerk sends the other client away, and frees the desk. The first waits again, and is served.
 #![tactic(auto)]
 
 use plan9::{
-    Clock, Fault, FaultText, Holder, Kernel, Note, NoteSet, OpenedKernel, Pool, Proc, RealTime,
-    Roster, Started, Ticker, Watch, fork,
+    Clock, Fault, FaultText, Note, NoteSet, OpenedKernel, Pid, Plan, Proc, RealTime, Roster, Seat,
+    Semaphore, Started, Watch, fork,
 };
 use std::alloc::Global;
 use std::sync::Wait;
@@ -14,94 +14,91 @@ use std::time::Clock as Now;
 /// How a wait ended.
 type Outcome = Result<(), Fault>;
 
-/// The desk, which is taken when the clients come, and the client that has no patience.
+/// A process at the desk.
 #[derive(Drop)]
-struct Front<'s, 't, 'k> {
-    desk: Holder<'s, 'k>,
-    hasty: Holder<'s, 'k>,
-    timer: Watch<'t>,
+struct Party<'s, 'k> {
+    proc: Proc<'k>,
+    desk: Seat<'s>,
+    watch: Watch<'s>,
 }
 
-/// Waits for five milliseconds from now.
-fn ask<R: Wait + Now>(rt: &R, time: &RealTime, front: &mut Front<'_, '_, '_>) -> Outcome {
-    let Front { hasty, timer, .. } = front;
-    hasty.acquire_within(rt, timer, time.now(rt), 5)
-}
-
-/// The other client waits on a thread of its own, for as long as it takes, and a note cancels it.
-fn serve<R: Threads + Wait + Now + Sync>(
+/// Waits for five milliseconds from now, complains, and waits again for as long as it takes.
+fn ask_twice<R: Wait + Now>(
     rt: &R,
     time: &RealTime,
-    front: &mut Front<'_, '_, '_>,
-    mut other: Holder<'_, '_>,
+    client: &mut Party<'_, '_>,
+    clerk: Pid,
+) -> Result<[Outcome; 2], Fault> {
+    let Party { proc, desk, watch } = client;
+    let gave_up = desk.acquire_within(rt, proc, watch, time.now(rt), 5);
+    proc.postnote(clerk, NoteSet::of(Note::Alarm))?;
+    Ok([gave_up, desk.acquire(rt, proc)])
+}
+
+/// Tells the time until a client complains, sends the other client away, and frees the desk. Where
+/// the other has no thread, it fails alone.
+fn serve<R: Threads + Wait + Now + Sync>(
+    rt: &R,
+    mut clerk: Party<'_, '_>,
+    mut hasty: Party<'_, '_>,
+    mut other: Party<'_, '_>,
 ) -> Result<[Outcome; 3], Fault> {
-    let pid = other.pid();
+    let time = &RealTime::new(rt);
+    let (pid, others) = (clerk.proc.pid(), other.proc.pid());
     scope(scope_env(), rt, move |scope| {
-        let Ok(waiting) = scope.spawn(move || other.acquire(rt)) else {
+        let Ok(asking) = scope.spawn(move || ask_twice(rt, time, &mut hasty, pid)) else {
             return Err(Fault::Device);
         };
-        let gave_up = ask(rt, time, front);
-        let noted = front.desk.postnote(pid, NoteSet::of(Note::Hangup));
-        let cancelled = waiting.join(rt);
-        let freed = front.desk.release(rt, 1);
-        let served = ask(rt, time, front);
+        let waiting = scope.spawn(move || other.desk.acquire(rt, &mut other.proc));
+        let Party { proc, desk, watch } = &mut clerk;
+        let _alarm = watch.run(rt, proc, &mut time.beat(rt));
+        let noted = proc.postnote(others, NoteSet::of(Note::Hangup));
+        let cancelled = match waiting {
+            Ok(waiting) => waiting.join(rt),
+            Err(_) => Err(Fault::Device),
+        };
+        let freed = desk.release(rt, proc, 1);
+        let [gave_up, served] = asking.join(rt)?;
         noted.and(freed).map(|_| [gave_up, cancelled, served])
     })
 }
 
-/// The desk beside a process that ticks.
-fn run_all<'k, R: Threads + Wait + Now + Sync>(
+/// A client is a child of the clerk.
+fn client_of<'s, 'k, R: Wait>(
     rt: &R,
-    mut ticker: Ticker<'_, 'k>,
-    front: &mut Front<'_, '_, 'k>,
+    clerk: &mut Party<'s, 'k>,
     roster: &mut Roster<'k>,
-) -> Result<[Outcome; 3], Fault> {
-    let (time, pid) = (&RealTime::new(rt), ticker.proc.pid());
-    let other = front.desk.fork(rt, roster)?;
-    scope(scope_env(), rt, move |scope| {
-        let Ok(ticking) = scope.spawn(move || ticker.run(rt, &mut time.beat(rt))) else {
-            return Err(Fault::Device);
-        };
-        let outcomes = serve(rt, time, front, other);
-        let noted = front.desk.postnote(pid, NoteSet::of(Note::Interrupt));
-        ticking.join(rt);
-        noted.and(outcomes)
-    })
+) -> Result<Party<'s, 'k>, Fault> {
+    let proc = fork(roster, &mut clerk.proc)?;
+    let (desk, watch) = (clerk.desk.split(rt)?, clerk.watch.split(rt)?);
+    Ok(Party { proc, desk, watch })
 }
 
-fn take_desk<'s, 't, 'k, R: Wait>(
+/// The clerk is the first process, and takes the desk before the clients come.
+fn open<'s, R: Threads + Wait + Now + Sync>(
     rt: &R,
-    pool: &'s mut Pool,
-    watch: &mut Watch<'t>,
-    roster: &mut Roster<'k>,
-    proc: Proc<'k>,
-) -> Result<Front<'s, 't, 'k>, Fault> {
-    let mut desk = pool.first(proc)?;
-    desk.acquire(rt)?;
-    let (timer, hasty) = (watch.split(rt)?, desk.fork(rt, roster)?);
-    Ok(Front { desk, hasty, timer })
-}
-
-/// Three processes at the desk, and one that ticks.
-fn seat<R: Threads + Wait + Now + Sync>(
-    rt: &R,
-    pool: &mut Pool,
-    clock: &mut Clock,
-    started: &mut Started<'_>,
+    desks: &'s mut Semaphore,
+    clock: &'s mut Clock,
+    started: Started<'_>,
 ) -> Result<[Outcome; 3], Fault> {
-    let Started { roster, proc } = started;
-    let first = fork(roster, proc)?;
-    let (mut watch, proc) = (clock.first()?, fork(roster, proc)?);
-    let mut front = take_desk(rt, pool, &mut watch, roster, first)?;
-    run_all(rt, Ticker { watch, proc }, &mut front, roster)
+    let Started {
+        mut roster,
+        mut proc,
+    } = started;
+    let (mut desk, watch) = (desks.seat()?, clock.watch()?);
+    desk.acquire(rt, &mut proc)?;
+    let mut clerk = Party { proc, desk, watch };
+    let hasty = client_of(rt, &mut clerk, &mut roster)?;
+    let other = client_of(rt, &mut clerk, &mut roster)?;
+    serve(rt, clerk, hasty, other)
 }
 
 fn run<R: Threads + Wait + Now + Sync>(rt: &R, alloc: Global) -> Result<[Outcome; 3], Fault> {
-    let OpenedKernel { kernel, start } = Kernel::new(alloc, 5, 3)?;
+    let OpenedKernel { kernel, start } = Plan::new().semaphore(3).build(alloc)?;
     let mut started = kernel.start(start);
-    let mut pool = Pool::new(alloc, &mut started.roster, 1, 3)?;
-    let mut clock = Clock::new(alloc, 2)?;
-    seat(rt, &mut pool, &mut clock, &mut started)
+    let mut desks = Semaphore::new(alloc, &mut started.roster, 1, 3)?;
+    let mut clock = Clock::new(alloc, 3)?;
+    open(rt, &mut desks, &mut clock, started)
 }
 
 fn main(rt: HostRuntime) -> std::io::Result<()> {

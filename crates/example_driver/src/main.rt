@@ -15,7 +15,7 @@ use std::io::Print;
 use std::sync::Wait;
 use std::sync::atomic::AtomicU64;
 use std::sync::atomic::Ordering::SeqCst;
-use std::thread::{self, Threads};
+use std::thread::{Threads, join, scope, scope_env, yield_now};
 
 /// How many blocks the user wants.
 const WANTED: u64 = 5;
@@ -104,7 +104,7 @@ fn look_at_sleeper<R: Wait>(rt: &R, kernel: &Kernel, sleeper: Pid) -> [RendezSta
         if seen.iter().any(|place| place.posted == Some(sleeper)) {
             break;
         }
-        thread::yield_now();
+        yield_now();
     }
     seen
 }
@@ -138,20 +138,6 @@ fn watch_driver<R: Wait + Print>(
     tell(rt, &seen).map_err(|_| Fault::Device)
 }
 
-/// The user: cancels what is not copied once the driver sleeps. A note ends that sleep, or the next
-/// one if the driver is awake.
-fn cancel<R: Wait + Print>(
-    rt: &R,
-    kernel: &Kernel,
-    user: &mut Proc<'_>,
-    driver: Pid,
-    transfer: &Transfer,
-) -> Result<(), Fault> {
-    let watched = watch_driver(rt, kernel, user, driver, transfer);
-    user.postnote(driver, NoteSet::of(Note::Interrupt))?;
-    watched
-}
-
 /// Three processes of a kernel.
 #[derive(Drop)]
 struct Procs<'k> {
@@ -160,8 +146,9 @@ struct Procs<'k> {
     driver: Proc<'k>,
 }
 
-/// The driver, which waits for the device, has a thread of its own; where no thread can be started,
-/// nothing is begun. The device and the user take turns on this one.
+/// The driver waits for the device, so it is started first; where no thread can be started, nothing
+/// is begun. The device, which never waits, has a thread of its own, or else its turn before the
+/// user's. The note ends the sleep of the driver, or the next one if it is awake.
 fn run_all<R: Threads + Wait + Print + Sync>(
     rt: &R,
     kernel: &Kernel,
@@ -174,18 +161,18 @@ fn run_all<R: Threads + Wait + Print + Sync>(
         mut driver,
     } = procs;
     let pid = driver.pid();
-    thread::scope(
-        thread::scope_env(),
-        rt,
-        move |scope| -> Result<u64, Fault> {
-            let Ok(copying) = scope.spawn(move || copy_blocks(rt, &mut driver, transfer)) else {
-                return Err(Fault::Device);
-            };
-            let made = make_blocks(&mut device, transfer);
-            let cancelled = cancel(rt, kernel, &mut user, pid, transfer);
-            made.and(cancelled).and(copying.join(rt))
-        },
-    )
+    scope(scope_env(), rt, move |scope| {
+        let Ok(copying) = scope.spawn(move || copy_blocks(rt, &mut driver, transfer)) else {
+            return Err(Fault::Device);
+        };
+        let (made, watched) = join(
+            rt,
+            || make_blocks(&mut device, transfer),
+            || watch_driver(rt, kernel, &mut user, pid, transfer),
+        );
+        let noted = user.postnote(pid, NoteSet::of(Note::Interrupt));
+        made.and(watched).and(noted).and(copying.join(rt))
+    })
 }
 
 /// The user is the first process, and the other two are its children.
@@ -194,8 +181,10 @@ fn open<R: Threads + Wait + Print + Sync>(
     kernel: &Kernel,
     started: Started<'_>,
 ) -> Result<u64, Fault> {
-    let Started { roster, proc } = started;
-    let (mut roster, mut user) = (roster, proc);
+    let Started {
+        mut roster,
+        proc: mut user,
+    } = started;
     let transfer = &Transfer {
         ready: Counter::new(roster.rendez()?),
         copied: Counter::new(roster.rendez()?),

@@ -4,10 +4,10 @@
 #![tactic(auto)]
 
 use plan9::{
-    Fault, Holder, Note, NoteSet, OpenedKernel, Plan, Pool, Proc, RealTime, Started, TickSource,
-    fork,
+    Fault, Note, NoteSet, OpenedKernel, Plan, Proc, RealTime, Seat, Semaphore, Started, TickSource,
+    forks,
 };
-use std::alloc::Global;
+use std::alloc::{AllocError, Global};
 use std::sync::Wait;
 use std::thread::{Threads, map_vec, scope, scope_env};
 use std::time::Clock;
@@ -19,86 +19,85 @@ const REQUESTS: u64 = 20;
 
 const CLIENTS: u64 = 3;
 
+/// A process with a seat: a client, or the one that adds units.
+#[derive(Drop)]
+struct Caller<'s, 'k> {
+    proc: Proc<'k>,
+    seat: Seat<'s>,
+}
+
 /// Adds a unit for each millisecond while there are fewer than may be made at once, until it is
 /// sent a note. Where more milliseconds pass between two moments, the rest of them is lost.
-fn pour<R: Wait + Clock>(
-    rt: &R,
-    time: &RealTime,
-    bucket: &mut Holder<'_, '_>,
-) -> Result<(), Fault> {
+fn pour<R: Wait + Clock>(rt: &R, time: &RealTime, bucket: Caller<'_, '_>) -> Result<(), Fault> {
+    let Caller { mut proc, mut seat } = bucket;
     let (mut beat, mut last) = (time.beat(rt), 0u64);
     for _ in rt.forever() {
-        if !bucket.notes().is_empty() {
+        if !proc.notes().is_empty() {
             break;
         }
         let moment = beat.next();
-        let full = bucket.release(rt, 0)?;
+        let full = seat.release(rt, &mut proc, 0)?;
         let passed = moment.saturating_sub(last).min(u64::from(BURST)) as u32;
-        bucket.release(rt, passed.min(BURST.saturating_sub(full)))?;
+        let more = passed.min(BURST.saturating_sub(full));
+        seat.release(rt, &mut proc, more)?;
         last = moment;
     }
     Ok(())
 }
 
-/// Makes requests, each with leave.
-fn ask<R: Wait>(rt: &R, client: &mut Holder<'_, '_>) -> Result<(), Fault> {
+/// Makes requests, each with leave. Returns at which millisecond the last was made.
+fn ask<R: Wait + Clock>(rt: &R, time: &RealTime, client: Caller<'_, '_>) -> Result<u64, Fault> {
+    let Caller { mut proc, mut seat } = client;
     for _ in 0..REQUESTS {
-        client.acquire(rt)?;
-    }
-    Ok(())
-}
-
-/// All clients, each on a thread of its own. Returns at which millisecond the last was done.
-fn ask_all<R: Threads + Wait + Clock + Sync>(
-    rt: &R,
-    time: &RealTime,
-    clients: Vec<Holder<'_, '_>>,
-) -> Result<u64, Fault> {
-    let asked = map_vec(rt, clients, &|mut client: Holder| ask(rt, &mut client))?;
-    for asked in asked.iter() {
-        (*asked)?;
+        seat.acquire(rt, &mut proc)?;
     }
     Ok(time.now(rt))
 }
 
-/// The clients beside the process that adds units.
-fn run_all<R: Threads + Wait + Clock + Sync>(
-    rt: &R,
-    main: &mut Proc<'_>,
-    mut bucket: Holder<'_, '_>,
-    clients: Vec<Holder<'_, '_>>,
-) -> Result<u64, Fault> {
-    let (time, pid) = (&RealTime::new(rt), bucket.pid());
-    scope(scope_env(), rt, move |scope| {
-        let Ok(pouring) = scope.spawn(move || pour(rt, time, &mut bucket)) else {
-            return Err(Fault::Device);
-        };
-        let took = ask_all(rt, time, clients);
-        let noted = main.postnote(pid, NoteSet::of(Note::Interrupt));
-        pouring.join(rt).and(noted).and(took)
-    })
+/// At which millisecond the last request of all was made.
+fn latest(asked: Result<Vec<Result<u64, Fault>>, AllocError>) -> Result<u64, Fault> {
+    let mut latest = 0;
+    for asked in asked?.iter() {
+        latest = latest.max((*asked)?);
+    }
+    Ok(latest)
 }
 
-/// The clients, and one process more, are children of the first process.
-fn seat<R: Threads + Wait + Clock + Sync>(
+/// The clients beside the process that adds units: children of the first process.
+fn run_all<R: Threads + Wait + Clock + Sync>(
     rt: &R,
     alloc: Global,
-    pool: &mut Pool,
-    started: &mut Started<'_>,
+    units: &mut Semaphore,
+    started: Started<'_>,
 ) -> Result<u64, Fault> {
-    let Started { roster, proc } = started;
-    let first = fork(roster, proc)?;
-    let mut clients = pool.holders(alloc, rt, roster, first, CLIENTS + 1)?;
+    let Started {
+        mut roster,
+        mut proc,
+    } = started;
+    let seats = units.seats(alloc, rt, CLIENTS + 1)?;
+    let procs = forks(alloc, &mut roster, &mut proc, CLIENTS + 1)?;
+    let mut clients = Vec::new(alloc);
+    for (proc, seat) in procs.into_iter().zip(seats) {
+        clients.push(Caller { proc, seat })?;
+    }
     let bucket = clients.pop().ok_or(Fault::NoProc)?;
-    run_all(rt, proc, bucket, clients)
+    let (time, pid) = (&RealTime::new(rt), bucket.proc.pid());
+    scope(scope_env(), rt, move |scope| {
+        let Ok(pouring) = scope.spawn(move || pour(rt, time, bucket)) else {
+            return Err(Fault::Device);
+        };
+        let asked = map_vec(rt, clients, &|client: Caller| ask(rt, time, client));
+        let noted = proc.postnote(pid, NoteSet::of(Note::Interrupt));
+        pouring.join(rt).and(noted).and(latest(asked))
+    })
 }
 
 fn run<R: Threads + Wait + Clock + Sync>(rt: &R, alloc: Global) -> Result<u64, Fault> {
     let plan = Plan::new().processes(CLIENTS + 2).semaphore(CLIENTS + 1);
     let OpenedKernel { kernel, start } = plan.build(alloc)?;
     let mut started = kernel.start(start);
-    let mut pool = Pool::new(alloc, &mut started.roster, BURST, CLIENTS + 1)?;
-    seat(rt, alloc, &mut pool, &mut started)
+    let mut units = Semaphore::new(alloc, &mut started.roster, BURST, CLIENTS + 1)?;
+    run_all(rt, alloc, &mut units, started)
 }
 
 fn main(rt: HostRuntime) -> std::io::Result<()> {

@@ -3,7 +3,7 @@
 #![tactic(auto)]
 
 use crossbeam_queue::ArrayQueue;
-use plan9::{Fault, Holder, Kernel, OpenedKernel, Pool, Roster, Started, fork};
+use plan9::{Fault, OpenedKernel, Plan, Proc, Roster, Seat, Semaphore, Started, fork};
 use std::alloc::{AllocError, Global};
 use std::sync::Wait;
 use std::thread::{Threads, map_vec, scope, scope_env};
@@ -11,22 +11,29 @@ use std::thread::{Threads, map_vec, scope, scope_env};
 /// How many jobs each producer makes, and each consumer takes.
 const JOBS: u64 = 20;
 
+/// How many producers there are, and how many consumers.
+const PARTIES: u64 = 2;
+
+/// How many seats each semaphore has: one for each of them, and the first one.
+const SEATS: u64 = 2 * PARTIES + 1;
+
 #[derive(Clone, Copy)]
 struct Job(u64);
 
-/// A producer or a consumer, which is two processes: one at each semaphore.
+/// A producer or a consumer, with a seat at each semaphore.
 #[derive(Drop)]
 struct Party<'s, 'k> {
-    free: Holder<'s, 'k>,
-    jobs: Holder<'s, 'k>,
+    proc: Proc<'k>,
+    free: Seat<'s>,
+    jobs: Seat<'s>,
 }
 
 /// Puts jobs in. A party with a unit finds a place.
 fn produce<R: Wait>(rt: &R, me: &mut Party<'_, '_>, queue: &ArrayQueue<Job>) -> Result<u64, Fault> {
     for number in 1..=JOBS {
-        me.free.acquire(rt)?;
+        me.free.acquire(rt, &mut me.proc)?;
         queue.push(rt, Job(number)).ok().ok_or(Fault::BadArg)?;
-        me.jobs.release(rt, 1)?;
+        me.jobs.release(rt, &mut me.proc, 1)?;
     }
     Ok(JOBS)
 }
@@ -35,9 +42,9 @@ fn produce<R: Wait>(rt: &R, me: &mut Party<'_, '_>, queue: &ArrayQueue<Job>) -> 
 fn consume<R: Wait>(rt: &R, me: &mut Party<'_, '_>, queue: &ArrayQueue<Job>) -> Result<u64, Fault> {
     let mut sum = 0u64;
     for _ in 0..JOBS {
-        me.jobs.acquire(rt)?;
+        me.jobs.acquire(rt, &mut me.proc)?;
         let Job(number) = queue.pop(rt).ok_or(Fault::BadArg)?;
-        me.free.release(rt, 1)?;
+        me.free.release(rt, &mut me.proc, 1)?;
         sum = sum.saturating_add(number);
     }
     Ok(sum)
@@ -72,44 +79,48 @@ fn run_all<R: Threads + Wait + Sync>(
     })
 }
 
-/// Two more parties.
-fn two<'s, 'k, R: Wait>(
+/// Producers or consumers: children of the first party.
+fn parties_of<'s, 'k, R: Wait>(
     rt: &R,
     alloc: Global,
     first: &mut Party<'s, 'k>,
     roster: &mut Roster<'k>,
 ) -> Result<Vec<Party<'s, 'k>>, Fault> {
     let mut parties = Vec::new(alloc);
-    for _ in 0..2 {
-        let free = first.free.fork(rt, roster)?;
-        let jobs = first.jobs.fork(rt, roster)?;
-        parties.push(Party { free, jobs })?;
+    for _ in 0..PARTIES {
+        let proc = fork(roster, &mut first.proc)?;
+        let free = first.free.split(rt)?;
+        let jobs = first.jobs.split(rt)?;
+        parties.push(Party { proc, free, jobs })?;
     }
     Ok(parties)
 }
 
-fn seat<'s, 'k, R: Threads + Wait + Sync>(
+fn open<'s, 'k, R: Threads + Wait + Sync>(
     rt: &R,
     alloc: Global,
-    free: &'s mut Pool,
-    jobs: &'s mut Pool,
+    free: &'s mut Semaphore,
+    jobs: &'s mut Semaphore,
     started: &mut Started<'k>,
 ) -> Result<u64, Fault> {
     let Started { roster, proc } = started;
-    let free = free.first(fork(roster, proc)?)?;
-    let jobs = jobs.first(fork(roster, proc)?)?;
-    let first = &mut Party { free, jobs };
-    let producers = two(rt, alloc, first, roster)?;
-    let consumers = two(rt, alloc, first, roster)?;
+    let free = free.seat()?;
+    let jobs = jobs.seat()?;
+    let proc = fork(roster, proc)?;
+    let first = &mut Party { proc, free, jobs };
+    let producers = parties_of(rt, alloc, first, roster)?;
+    let consumers = parties_of(rt, alloc, first, roster)?;
     run_all(rt, &ArrayQueue::new(alloc, 4)?, producers, consumers)
 }
 
 fn run<R: Threads + Wait + Sync>(rt: &R, alloc: Global) -> Result<u64, Fault> {
-    let OpenedKernel { kernel, start } = Kernel::new(alloc, 11, 10)?;
+    let plan = Plan::new().processes(SEATS + 1);
+    let plan = plan.semaphore(SEATS).semaphore(SEATS);
+    let OpenedKernel { kernel, start } = plan.build(alloc)?;
     let mut started = kernel.start(start);
-    let mut free = Pool::new(alloc, &mut started.roster, 4, 5)?;
-    let mut jobs = Pool::new(alloc, &mut started.roster, 0, 5)?;
-    seat(rt, alloc, &mut free, &mut jobs, &mut started)
+    let mut free = Semaphore::new(alloc, &mut started.roster, 4, SEATS)?;
+    let mut jobs = Semaphore::new(alloc, &mut started.roster, 0, SEATS)?;
+    open(rt, alloc, &mut free, &mut jobs, &mut started)
 }
 
 fn main(rt: HostRuntime) -> std::io::Result<()> {

@@ -5,89 +5,60 @@
 //! server goes on with the others. A hangup of the pipe of requests ends it.
 #![tactic(auto)]
 
-ghost use Rattle.std.specs.Prelude.{◌≡◌, IfOk};
-
 use plan9::{
-    Ends, Fault, Kernel, OpenedKernel, OpenedPipe, Pipe, Proc, ReadAnswer, ReadEnd, Reader, Roster,
-    Started, WriteEnd, Writer, fork_writers, write_unnoted,
+    Ends, Fault, Kernel, OpenedKernel, OpenedPipe, OpenedPipes, Pipe, Pipes, Proc, ReadAnswer,
+    ReadEnd, Started, WriteCalls, WriteEnd, fork, forks,
 };
 use std::alloc::Global;
 use std::sync::Wait;
 use std::thread::{Threads, map_vec, scope, scope_env};
 
-/// A client asks at one pipe and is answered at another.
-#[derive(Drop)]
-struct Client<'k> {
-    asks: Writer<'k, 'k>,
-    answers: ReadEnd<'k>,
-}
+/// How many clients there are, and which of them leaves in the middle.
+const CLIENTS: u64 = 4;
 
-/// The client with this number leaves in the middle.
 const LEAVES: u8 = 2;
 
-/// Asks for a square. A request, with the client's number, is one write: it is read whole and never
-/// joined with another, so the clients need no lock.
-fn request<R: Wait>(
-    rt: &R,
-    alloc: Global,
-    me: &mut Client<'_>,
+/// A client asks at one pipe and is answered at another.
+#[derive(Drop)]
+struct Client<'p, 'k> {
     number: u8,
-    wanted: u8,
-) -> Result<u64, Fault> {
-    me.asks.write(alloc, rt, &[number, wanted])
+    proc: Proc<'k>,
+    asks: WriteEnd<'p>,
+    answers: ReadEnd<'p>,
 }
 
-/// Waits for the answer.
-fn answer<R: Wait>(rt: &R, me: &mut Client<'_>) -> Result<u64, Fault> {
-    let Client { asks, answers } = me;
-    let mut square = [0];
-    if answers.read(rt, &mut asks.proc, &mut square)? == ReadAnswer::End {
-        return Err(Fault::Hungup);
+impl<'p, 'k> Client<'p, 'k> {
+    /// Asks for a square. A request, with the client's number, is one write: it is read whole and
+    /// never joined with another, so the clients need no lock.
+    fn request<R: Wait>(&mut self, rt: &R, alloc: Global, wanted: u8) -> Result<u64, Fault> {
+        let request = [self.number, wanted];
+        self.asks.write(alloc, rt, &mut self.proc, &request)
     }
-    Ok(u64::from(square[0]))
-}
 
-/// Hangs the answers up and leaves, with a request unanswered.
-fn leave<R: Wait>(
-    rt: &R,
-    alloc: Global,
-    me: &mut Client<'_>,
-    number: u8,
-    wanted: u8,
-) -> Result<Option<u64>, Fault> {
-    let Client { asks, answers } = me;
-    answers.hangup(&mut asks.proc);
-    request(rt, alloc, me, number, wanted)?;
-    Ok(None)
-}
-
-/// Asks for the squares of 1 to 5, and returns their sum; a client that leaves has none.
-fn ask<R: Wait>(rt: &R, alloc: Global, me: &mut Client<'_>) -> Result<Option<u64>, Fault> {
-    let Ok(number) = u8::try_from(me.asks.end.writer()) else {
-        return Err(Fault::BadArg);
-    };
-    let mut sum = 0u64;
-    for wanted in 1..=5 {
-        if number == LEAVES && wanted == 3 {
-            return leave(rt, alloc, me, number, wanted);
+    /// Waits for the answer.
+    fn answer<R: Wait>(&mut self, rt: &R) -> Result<u64, Fault> {
+        let mut square = [0];
+        if self.answers.read(rt, &mut self.proc, &mut square)? == ReadAnswer::End {
+            return Err(Fault::Hungup);
         }
-        request(rt, alloc, me, number, wanted)?;
-        sum = sum.wrapping_add(answer(rt, me)?);
+        Ok(u64::from(square[0]))
     }
-    Ok(Some(sum))
-}
 
-/// All clients, each on a thread, and then a hangup of the pipe of requests, by a writer that does
-/// nothing else.
-fn ask_all<R: Threads + Wait + Sync>(
-    rt: &R,
-    alloc: Global,
-    clients: Vec<Client<'_>>,
-    mut last: Writer<'_, '_>,
-) -> Result<Vec<u64>, Fault> {
-    let asked = map_vec(rt, clients, &|mut me: Client| ask(rt, alloc, &mut me));
-    last.hangup();
-    sums(alloc, &asked?)
+    /// Asks for the squares of 1 to 5, and returns their sum. A client that leaves hangs its
+    /// answers up, with a request unanswered, and has no sum.
+    fn ask<R: Wait>(&mut self, rt: &R, alloc: Global) -> Result<Option<u64>, Fault> {
+        let mut sum = 0u64;
+        for wanted in 1..=5 {
+            if self.number == LEAVES && wanted == 3 {
+                self.answers.hangup(&mut self.proc);
+                self.request(rt, alloc, wanted)?;
+                return Ok(None);
+            }
+            self.request(rt, alloc, wanted)?;
+            sum = sum.wrapping_add(self.answer(rt)?);
+        }
+        Ok(Some(sum))
+    }
 }
 
 /// The sums of the clients that stayed.
@@ -103,116 +74,111 @@ fn sums(alloc: Global, asked: &[Result<Option<u64>, Fault>]) -> Result<Vec<u64>,
 
 /// The server reads at one pipe, and answers at one of each client's, by its number.
 #[derive(Drop)]
-struct Server<'k> {
-    reader: Reader<'k, 'k>,
-    answers: Vec<WriteEnd<'k>>,
+struct Server<'p, 'k> {
+    proc: Proc<'k>,
+    requests: ReadEnd<'p>,
+    answers: Vec<WriteEnd<'p>>,
 }
 
 /// The request loop. A client that is gone has hung its answers up: the write there is refused, and
 /// leaves no note that would end the next read. The pipe of a client that can't be answered is hung
 /// up, so that the client doesn't wait.
-fn serve<R: Wait>(rt: &R, alloc: Global, server: &mut Server<'_>) -> Result<(), Fault> {
-    let Server { reader, answers } = server;
+fn serve<R: Wait>(rt: &R, alloc: Global, server: &mut Server<'_, '_>) -> Result<(), Fault> {
+    let Server {
+        proc,
+        requests,
+        answers,
+    } = server;
     let mut request = [0; 2];
     for _ in rt.forever() {
-        if reader.read(rt, &mut request)? == ReadAnswer::End {
+        if requests.read(rt, proc, &mut request)? == ReadAnswer::End {
             break;
         }
         let [client, wanted] = request;
         let square = [wanted.saturating_mul(wanted)];
         let end = answers.get_mut(usize::from(client)).ok_or(Fault::BadArg)?;
-        if write_unnoted(alloc, rt, end, &mut reader.proc, &square).is_err() {
-            end.hangup(&mut reader.proc);
+        if end.write_unnoted(alloc, rt, proc, &square).is_err() {
+            end.hangup(proc);
         }
     }
     Ok(())
 }
 
-/// Starts the server first, since the clients wait for it.
+/// Starts the server first, since the clients wait for it. Once all clients are done, the first
+/// process hangs the pipe of requests up.
 fn run_all<R: Threads + Wait + Sync>(
     rt: &R,
     alloc: Global,
-    mut server: Server<'_>,
-    clients: Vec<Client<'_>>,
-    last: Writer<'_, '_>,
+    mut proc: Proc<'_>,
+    mut last: WriteEnd<'_>,
+    mut server: Server<'_, '_>,
+    clients: Vec<Client<'_, '_>>,
 ) -> Result<Vec<u64>, Fault> {
     scope(scope_env(), rt, move |scope| {
         let Ok(serving) = scope.spawn(move || serve(rt, alloc, &mut server)) else {
             return Err(Fault::Device);
         };
-        let sums = ask_all(rt, alloc, clients, last);
-        serving.join(rt).and(sums)
+        let asked = map_vec(rt, clients, &|mut client: Client| client.ask(rt, alloc));
+        last.hangup(&mut proc);
+        serving.join(rt).and(sums(alloc, &asked?))
     })
 }
 
-/// The ends of a new pipe, which is kept for as long as the program runs. A pipe goes both ways;
-/// here one way of each is used.
-fn ends<'k>(
+/// The clients, each with an end of the pipe of requests and with a pipe back.
+fn clients_of<'p, 'k>(
     alloc: Global,
-    roster: &mut Roster<'_>,
-    limit: u64,
-    writers: u64,
-) -> Result<Ends<'k>, Fault> {
-    let OpenedPipe { pipe, start } = Pipe::new(alloc, roster, limit, writers)?;
-    let pipe = &*keep(alloc, pipe)?;
-    Ok(pipe.ends(start))
-}
-
-fn keep<'k, T: Drop + 'k>(alloc: Global, value: T) -> Result<&'k mut T, Fault>
-    ensures { IfOk result (λ kept. kept.now ≡ value) }
-{
-    match Box::new(alloc, value) {
-        Ok(kept) => Ok(Box::leak(kept)),
-        Err(_) => Err(Fault::Memory),
-    }
-}
-
-/// Opens a pipe back to a client.
-fn seat<'k>(
-    alloc: Global,
-    roster: &mut Roster<'_>,
-    asks: Writer<'k, 'k>,
-    back: &mut Vec<WriteEnd<'k>>,
-) -> Result<Client<'k>, Fault> {
-    let Ends { first, second } = ends(alloc, roster, 1, 1)?;
-    back.extend(first.parts().writes)?;
-    let answers = second.parts().read;
-    Ok(Client { asks, answers })
-}
-
-fn clients<'k>(
-    alloc: Global,
-    roster: &mut Roster<'_>,
-    writers: Vec<Writer<'k, 'k>>,
-    back: &mut Vec<WriteEnd<'k>>,
-) -> Result<Vec<Client<'k>>, Fault> {
+    procs: Vec<Proc<'k>>,
+    asks: Vec<WriteEnd<'p>>,
+    backs: Vec<Ends<'p>>,
+    answers: &mut Vec<WriteEnd<'p>>,
+) -> Result<Vec<Client<'p, 'k>>, Fault> {
     let mut clients = Vec::new(alloc);
-    for asks in writers {
-        clients.push(seat(alloc, roster, asks, back)?)?;
+    for (number, ((proc, asks), back)) in (0..).zip(procs.into_iter().zip(asks).zip(backs)) {
+        answers.extend(back.first.parts().writes)?;
+        clients.push(Client {
+            number,
+            proc,
+            asks,
+            answers: back.second.parts().read,
+        })?;
     }
     Ok(clients)
 }
 
-/// The pipe of requests has five writers.
-fn open<'k, R: Threads + Wait + Sync>(
+/// The server and the clients are children of the first process, which has the last end of the pipe
+/// of requests.
+fn open<'p, 'k, R: Threads + Wait + Sync>(
     rt: &R,
     alloc: Global,
-    roster: &mut Roster<'k>,
-    proc: Proc<'k>,
+    ends: Ends<'p>,
+    backs: Vec<Ends<'p>>,
+    started: Started<'k>,
 ) -> Result<Vec<u64>, Fault> {
-    let Ends { first, second } = ends(alloc, roster, 2, 5)?;
-    let mut reader = Reader::new(first.parts().read, proc);
-    let mut writers = fork_writers(alloc, roster, &mut reader.proc, second.parts().writes)?;
-    let last = writers.pop().ok_or(Fault::BadSize)?;
+    let Started {
+        mut roster,
+        mut proc,
+    } = started;
+    let mut asks = ends.second.parts().writes;
+    let last = asks.pop().ok_or(Fault::BadSize)?;
+    let procs = forks(alloc, &mut roster, &mut proc, CLIENTS)?;
     let mut answers = Vec::new(alloc);
-    let clients = clients(alloc, roster, writers, &mut answers)?;
-    run_all(rt, alloc, Server { reader, answers }, clients, last)
+    let clients = clients_of(alloc, procs, asks, backs, &mut answers)?;
+    let server = Server {
+        proc: fork(&mut roster, &mut proc)?,
+        requests: ends.first.parts().read,
+        answers,
+    };
+    run_all(rt, alloc, proc, last, server, clients)
 }
 
+/// A pipe goes both ways; here one way of each is used.
 fn run<R: Threads + Wait + Sync>(rt: &R, alloc: Global) -> Result<Vec<u64>, Fault> {
     let OpenedKernel { kernel, start } = Kernel::new(alloc, 6, 28)?;
-    let Started { mut roster, proc } = kernel.start(start);
-    open(rt, alloc, &mut roster, proc)
+    let mut started = kernel.start(start);
+    let OpenedPipe { pipe, start } = Pipe::new(alloc, &mut started.roster, 2, CLIENTS + 1)?;
+    let ends = pipe.ends(start);
+    let OpenedPipes { pipes, start } = Pipes::new(alloc, &mut started.roster, CLIENTS, 1, 1)?;
+    open(rt, alloc, ends, pipes.ends(start), started)
 }
 
 fn main(rt: HostRuntime) -> std::io::Result<()> {

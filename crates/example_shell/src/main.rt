@@ -6,7 +6,7 @@
 #![tactic(auto)]
 
 use plan9::{
-    Fault, Flags, Kernel, Note, NoteSet, OpenedKernel, Pid, Proc, RendezId, Roster, Started, fork,
+    Fault, Flags, Kernel, Note, NoteSet, OpenedKernel, Pid, Proc, RendezId, Roster, Started, forks,
 };
 use std::alloc::Global;
 use std::io;
@@ -53,24 +53,15 @@ struct Shell<'k> {
 }
 
 impl<'k> Shell<'k> {
-    /// All jobs.
-    fn begin_all(&mut self, all: &mut Vec<Worker<'k>>) -> Result<(), Fault> {
-        for job in 1..=JOBS {
-            self.begin(job, all)?;
-        }
-        Ok(())
-    }
-
     /// A job: a process in a group of its own, and its children.
-    fn begin(&mut self, job: u64, all: &mut Vec<Worker<'k>>) -> Result<(), Fault> {
+    fn begin(&mut self, alloc: Global, job: u64, all: &mut Vec<Worker<'k>>) -> Result<(), Fault> {
         let apart = Flags::RFPROC.join(Flags::RFNOTEG);
         let child = self.roster.rfork(&mut self.proc, apart)?;
         let mut first = child.ok_or(Fault::NoProc)?;
         if job == STOPPED {
             self.stopped = first.pid();
         }
-        for _ in 1..PROCS {
-            let child = fork(&mut self.roster, &mut first)?;
+        for child in forks(alloc, &mut self.roster, &mut first, PROCS - 1)? {
             self.join(job, child, all)?;
         }
         self.join(job, first, all)
@@ -121,7 +112,9 @@ fn run_all<'k, R: Threads + Wait + Sync>(
         doors,
     };
     let mut workers = Vec::new(alloc);
-    shell.begin_all(&mut workers)?;
+    for job in 1..=JOBS {
+        shell.begin(alloc, job, &mut workers)?;
+    }
     let (noted, ended) = join(
         rt,
         || shell.direct(),

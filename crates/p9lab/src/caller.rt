@@ -1,32 +1,32 @@
-//! A process in its role, and the calls that a line may make of it.
+//! A process with its things, and the calls that a line may make of it.
 use crate::progress::{Progress, Stops, Visitor};
 use crate::roles::{call_guest, call_holder, call_plain, call_reader, call_sharer, call_writer};
-use plan9::{Guest, Holder, NoProbe, Probe, Proc, Reader, Sharer, Watch, Writer};
-use scene_text::answer::{Answer, NO_CLOCK, NOT_HERE, Visit};
-use scene_text::verbs::{Call, RoleAt};
+use plan9::{Member, NoProbe, Probe, Proc, ReadEnd, Seat, Share, Watch, WriteEnd};
+use scene_text::answer::{Answer, NO_CLOCK, NOT_HERE, NOT_ITS_CALL, Visit};
+use scene_text::verbs::{Asked, Call, RoleAt, RoleName};
 use std::alloc::Global;
 use std::sync::Wait;
 
 /// A process of the library, as a scene has it.
 pub type OwnProc = Proc<'static>;
 
-/// A process with a seat at a semaphore, in a tag space, and with turns at a shared end.
-pub type Seat = Holder<'static, 'static>;
-
-pub type Member = Guest<'static, 'static>;
-
-pub type Turns = Sharer<'static, 'static, 'static>;
-
-/// Who a process is.
+/// What a process has by a role: of an object, or that it is a process alone.
 #[derive(Drop)]
-pub enum Role {
-    Plain(OwnProc),
-    Reader(Reader<'static, 'static>),
-    Writer(Writer<'static, 'static>),
-    Holder(Seat),
+pub enum Thing {
+    Plain,
+    Reader(ReadEnd<'static>),
+    Writer(WriteEnd<'static>),
+    Holder(Seat<'static>),
     /// None while it rforks.
-    Guest(Option<Member>),
-    Sharer(Turns),
+    Guest(Option<Member<'static>>),
+    Sharer(Share<'static, 'static>),
+}
+
+/// A thing, and the role as a line names it.
+#[derive(Drop)]
+pub struct Held {
+    pub role: RoleAt,
+    pub thing: Thing,
 }
 
 /// What a process has for its calls: memory, the bytes that it writes or has read, and its seat at
@@ -38,13 +38,14 @@ pub struct Means {
     pub watch: Option<Watch<'static>>,
 }
 
-/// A process, the points that its last probed call has visited, and its role as a line names it.
+/// A process, what it has, in the order in which it got it, and the points that its last probed
+/// call has visited.
 #[derive(Drop)]
 pub struct Caller {
-    pub role: Role,
+    pub proc: OwnProc,
+    pub things: Vec<Held>,
     pub means: Means,
     pub visits: Vec<Visit>,
-    pub held: RoleAt,
 }
 
 /// A process after a call that it made on a thread.
@@ -54,74 +55,86 @@ pub struct Reply {
     pub answer: Answer,
 }
 
+/// The place among these of what was got last by a role of this name.
+pub fn last_of(things: &Vec<Held>, name: RoleName) -> Option<usize> {
+    things.iter().rposition(|held| held.role.name == name)
+}
+
+// What was got last of all by which this call may be made.
+fn maker_of(things: &mut Vec<Held>, asked: Asked) -> Option<&mut Thing> {
+    let at = things.iter().rposition(|held| asked.suits(held.role))?;
+    Some(&mut things.get_mut(at)?.thing)
+}
+
 /// A call on a thread. That it has ended is told last.
 pub fn run(
     rt: &impl Wait,
     mut caller: Caller,
-    call: Call,
+    asked: Asked,
     stops: Stops,
     progress: &'static Progress,
 ) -> Reply {
-    let answer = answer_to(rt, &mut caller, call, stops, progress);
+    let answer = answer_to(rt, &mut caller, asked, stops, progress);
     progress.end();
     Reply { caller, answer }
 }
 
-// A call of its role. Where it is probed the thread stands at its points.
+// A call by one of its things. Where it is probed the thread stands at its points.
 fn answer_to(
     rt: &impl Wait,
     caller: &mut Caller,
-    call: Call,
+    asked: Asked,
     stops: Stops,
     progress: &Progress,
 ) -> Answer {
     let Caller {
-        role,
+        proc,
+        things,
         means,
         visits,
-        ..
     } = caller;
+    let maker = maker_of(things, asked);
     if !stops.probed {
-        return make_call(rt, role, means, call, &mut NoProbe);
+        return match maker {
+            Some(thing) => make_call(rt, thing, proc, means, asked.call, &mut NoProbe),
+            None => NOT_ITS_CALL,
+        };
     }
     visits.clear();
-    if !takes_probe(role, call) {
-        return Answer::Word("not probed");
+    let Some(thing) = maker else {
+        return NOT_PROBED;
+    };
+    if !asked.call.takes_probe() {
+        return NOT_PROBED;
     }
     let mut probe = Visitor {
         progress,
         stops,
         visits,
     };
-    make_call(rt, role, means, call, &mut probe)
+    make_call(rt, thing, proc, means, asked.call, &mut probe)
 }
 
-// Whether this call of a role takes a probe.
-fn takes_probe(role: &Role, call: Call) -> bool {
-    match (role, call) {
-        (Role::Plain(_) | Role::Reader(_) | Role::Writer(_), Call::Sleep(_, _)) => true,
-        (Role::Holder(_), Call::Acquire | Call::TryAcquire | Call::AcquireWithin(_)) => true,
-        (Role::Guest(_), Call::Rendezvous(_, _) | Call::RendezvousWithin(_, _, _)) => true,
-        _ => false,
-    }
-}
+// Lines are kept for a call that takes no probe.
+const NOT_PROBED: Answer = Answer::Word("not probed");
 
-// A call of a role with this probe.
+// A call by this thing, with this probe.
 fn make_call(
     rt: &impl Wait,
-    role: &mut Role,
+    thing: &mut Thing,
+    proc: &mut OwnProc,
     means: &mut Means,
     call: Call,
     probe: &mut impl Probe,
 ) -> Answer {
-    let answer = match role {
-        Role::Plain(proc) => call_plain(rt, proc, means, call, probe),
-        Role::Reader(reader) => call_reader(rt, reader, means, call, probe),
-        Role::Writer(writer) => call_writer(rt, writer, means, call, probe),
-        Role::Holder(holder) => call_holder(rt, holder, means, call, probe),
-        Role::Guest(Some(guest)) => call_guest(rt, guest, means, call, probe),
-        Role::Guest(None) => Some(NOT_HERE),
-        Role::Sharer(sharer) => Some(call_sharer(rt, sharer, &mut means.bytes, call)),
+    let answer = match thing {
+        Thing::Plain => call_plain(rt, proc, means, call, probe),
+        Thing::Reader(end) => call_reader(rt, end, proc, means, call, probe),
+        Thing::Writer(end) => call_writer(rt, end, proc, means, call, probe),
+        Thing::Holder(seat) => call_holder(rt, seat, proc, means, call, probe),
+        Thing::Guest(Some(member)) => call_guest(rt, member, proc, means, call, probe),
+        Thing::Guest(None) => Some(NOT_HERE),
+        Thing::Sharer(share) => Some(call_sharer(rt, share, proc, &mut means.bytes, call)),
     };
     answer.unwrap_or(NO_CLOCK)
 }

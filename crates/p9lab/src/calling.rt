@@ -4,7 +4,7 @@ use crate::progress::{Progress, Stops};
 use crate::scene::{Host, Process, STRANGERS, Scene, State, set};
 use plan9::{Fault, Note, NoteSet};
 use scene_text::answer::{Answer, NOT_HERE};
-use scene_text::verbs::Call;
+use scene_text::verbs::Asked;
 use std::sync::Wait;
 use std::thread::{JoinHandle, Threads, yield_now};
 use std::{mem, thread};
@@ -24,12 +24,12 @@ pub enum Until {
 fn start_call<R: Threads + Wait + Copy + Send + 'static>(
     rt: &R,
     caller: Caller,
-    call: Call,
+    asked: Asked,
     stops: Stops,
     progress: &'static Progress,
 ) -> Option<JoinHandle<Reply>> {
     let rt = *rt;
-    thread::spawn(&rt, move || run(&rt, caller, call, stops, progress)).ok()
+    thread::spawn(&rt, move || run(&rt, caller, asked, stops, progress)).ok()
 }
 
 /// Starts a call of a process, if it is here; else it says why not. Where no thread can be made the
@@ -37,13 +37,13 @@ fn start_call<R: Threads + Wait + Copy + Send + 'static>(
 pub fn start(
     rt: &impl Host,
     process: &mut Process,
-    call: Call,
+    asked: Asked,
     stops: Stops,
 ) -> Result<(), Answer> {
     match mem::replace(&mut process.state, State::Gone) {
         State::Here(caller) => {
             process.progress.begin();
-            let Some(thread) = start_call(rt, caller, call, stops, process.progress) else {
+            let Some(thread) = start_call(rt, caller, asked, stops, process.progress) else {
                 process.progress.end();
                 return Err(Answer::Fault(Fault::Device));
             };

@@ -1,14 +1,16 @@
 //! What a line does, up to what it waits for.
+use crate::caller::Held;
 use crate::calling::{Until, start};
 use crate::objects::{index_of, make_clock, make_group, make_pipe, make_sema, make_space, share};
 use crate::progress::status_of;
 use crate::roles::call_at_once;
-use crate::scene::{Host, Scene, State, caller_at, place_of, set};
-use crate::seating::{fork, fork_holder, note_group, rfork_alone, seat_stranger};
+use crate::scene::{Host, Scene, State, caller_at, place_of, push, set};
+use crate::seating::{fork_holder, fork_in_role, note_group, rfork_alone, seat_stranger};
+use crate::things::thing_for;
 use plan9::{Fault, Flags, RendezId, RendezStatus};
 use scene_text::answer::{Answer, Came, NO_CLOCK, NOT_HERE, OK, numbered};
 use scene_text::line::Line;
-use scene_text::verbs::{Call, Verb};
+use scene_text::verbs::{Asked, Call, RoleAt, Verb};
 use scene_text::words::fill;
 use std::sync::Wait;
 
@@ -34,18 +36,25 @@ pub fn begin(rt: &impl Host, scene: &mut Scene, line: &Line) -> Option<Step> {
         verb if number == 0 => answered(answer(rt, scene, 0, verb)?),
         Verb::Waits => Step::Awaits(at, Until::Waits),
         Verb::Ends => Step::Awaits(at, Until::Ends),
-        Verb::Makes(call, bytes) => match begin_call(rt, scene, at, call, bytes) {
+        Verb::Makes(call, bytes) => match begin_call(rt, scene, at, call_of(line, call), bytes) {
             Ok(()) if line.apart => Step::Answered(Answer::Word("started")),
             Ok(()) => Step::Awaits(at, Until::Ends),
             Err(why) => Step::Answered(why),
         },
         Verb::Look => Step::Answered(look_answer(scene, number)),
+        Verb::Gets(role) => answered(gets(rt, scene, at, role)),
         Verb::TakeSeat(object) => answered(take_seat(rt, scene, at, object)),
         _ if caller_at(&mut scene.processes, at).is_none() => Step::Answered(NOT_HERE),
         Verb::Points => Step::Answered(Answer::Points),
         Verb::Posted => Step::Answered(Answer::Posted),
         verb => answered(answer(rt, scene, number, verb)?),
     })
+}
+
+// The call that a line asks for.
+fn call_of(line: &Line, call: Call) -> Asked {
+    let role = line.role;
+    Asked { call, role }
 }
 
 // What a line came to that waits for nothing.
@@ -67,9 +76,9 @@ fn answer(rt: &impl Wait, scene: &mut Scene, number: u64, verb: Verb<'_>) -> Opt
         Verb::Space(members) => make_space(scene, members),
         Verb::NewGroup(object) => make_group(scene, object),
         Verb::Stranger(procs, rendez, role) => seat_stranger(rt, scene, procs, rendez, role),
-        Verb::Fork(Some(role)) => fork(rt, scene, number, Flags::RFPROC, role),
+        Verb::Fork(Some(role)) => fork_in_role(rt, scene, number, Flags::RFPROC, role),
         Verb::Fork(None) => fork_holder(rt, scene, number),
-        Verb::Rfork(flags, Some(role)) => fork(rt, scene, number, flags, role),
+        Verb::Rfork(flags, Some(role)) => fork_in_role(rt, scene, number, flags, role),
         Verb::Rfork(flags, None) => rfork_alone(rt, scene, number, flags),
         Verb::NoteGroup(pid, notes) => Ok(note_group(scene, number, pid, notes)),
         Verb::GiveRendez => Ok(given(scene.roster.rendez())),
@@ -125,6 +134,20 @@ fn level_of(scene: &Scene, rendez: u64) -> Option<Answer> {
 
 // ---- the others
 
+// `N gets ROLE ..`: the process has one thing more.
+fn gets(rt: &impl Wait, scene: &mut Scene, at: usize, role: RoleAt) -> Came {
+    let Some(caller) = caller_at(&mut scene.processes, at) else {
+        return Ok(NOT_HERE);
+    };
+    // room comes first, so that who finds none takes nothing along
+    caller.things.reserve(1)?;
+    let thing = thing_for(rt, scene, role)?;
+    if let Some(caller) = caller_at(&mut scene.processes, at) {
+        push(&mut caller.things, Held { role, thing })?;
+    }
+    Ok(OK)
+}
+
 // `N clock K`: the process takes a seat at timers.
 fn take_seat(rt: &impl Wait, scene: &mut Scene, at: usize, object: u64) -> Came {
     let Some(clock) = scene.objects.clocks.get_mut(index_of(object)) else {
@@ -142,7 +165,7 @@ fn begin_call(
     rt: &impl Host,
     scene: &mut Scene,
     at: usize,
-    call: Call,
+    asked: Asked,
     bytes: &str,
 ) -> Result<(), Answer> {
     let process = scene.processes.get_mut(at).ok_or(NOT_HERE)?;
@@ -151,7 +174,7 @@ fn begin_call(
             return Err(Answer::Fault(Fault::Memory));
         }
     }
-    start(rt, process, call, scene.kept.next_stops())?;
+    start(rt, process, asked, scene.kept.next_stops())?;
     scene.kept.take(at);
     Ok(())
 }

@@ -3,10 +3,11 @@ ghost use Rattle.plan9.specs.Openings.{IsStartOf};
 
 use crate::scene::{Scene, keep, push, set};
 use plan9::{
-    Clock, Ends, Fault, Hall, Kernel, Mode, OpenedPipe, Parts, Pipe, Pool, ReadEnd, Roster, Shared,
-    Unshared, Watch, WriteEnd,
+    Clock, Ends, Fault, Kernel, Mode, OpenedPipe, Parts, Pipe, ReadEnd, Roster, Semaphore,
+    SharedEnd, Space, Unshared, Watch, WriteEnd,
 };
 use scene_text::answer::{Answer, Came};
+use scene_text::verbs::{RoleAt, RoleName};
 use std::alloc::Global;
 
 /// The ends of one direction that nobody has yet.
@@ -16,10 +17,11 @@ pub struct Direction {
     pub writes: Vec<WriteEnd<'static>>,
 }
 
-/// An object to which nobody has come yet, and the end of its Rendez: all of them are below it.
+/// An object, as long as nobody has come to it, and the end of its Rendez: all of them are below
+/// it.
 #[derive(Drop)]
-pub struct Fresh<T: Drop> {
-    object: Box<T>,
+pub struct Row<T: Drop> {
+    fresh: Option<Box<T>>,
     end: u64,
 }
 
@@ -28,10 +30,10 @@ pub struct Fresh<T: Drop> {
 pub struct Objects {
     /// Two of each pipe: from the second end to the first, and the other way back.
     pub directions: Vec<Direction>,
-    pub pools: Vec<Option<Fresh<Pool>>>,
-    pub halls: Vec<Option<Fresh<Hall>>>,
+    pub semas: Vec<Row<Semaphore>>,
+    pub spaces: Vec<Row<Space>>,
     pub clocks: Vec<Watch<'static>>,
-    pub shared: Vec<Option<Fresh<Shared<'static>>>>,
+    pub shared: Vec<Row<SharedEnd<'static>>>,
 }
 
 impl Objects {
@@ -39,8 +41,8 @@ impl Objects {
     pub fn new(alloc: Global) -> Objects {
         Objects {
             directions: Vec::new(alloc),
-            pools: Vec::new(alloc),
-            halls: Vec::new(alloc),
+            semas: Vec::new(alloc),
+            spaces: Vec::new(alloc),
             clocks: Vec::new(alloc),
             shared: Vec::new(alloc),
         }
@@ -51,6 +53,17 @@ impl Objects {
         let back = if back { 1 } else { 0 };
         let at = index_of(object).saturating_mul(2).saturating_add(back);
         self.directions.get_mut(at).ok_or(Fault::NoProc)
+    }
+
+    /// Whether the object of this role has Rendez that are not among the first so many. An end of a
+    /// pipe tells its callers so itself.
+    pub fn is_above(&self, role: RoleAt, rendez: u64) -> bool {
+        match role.name {
+            RoleName::Holder => ends_above(&self.semas, role.object, rendez),
+            RoleName::Guest => ends_above(&self.spaces, role.object, rendez),
+            RoleName::Sharer => ends_above(&self.shared, role.object, rendez),
+            _ => false,
+        }
     }
 }
 
@@ -103,30 +116,36 @@ fn direction_of(read: ReadEnd<'static>, mut writes: Vec<WriteEnd<'static>>) -> D
 
 /// Makes a semaphore, at which nobody has a seat yet.
 pub fn make_sema(scene: &mut Scene, units: u32, seats: u64) -> Came {
-    let opened = Pool::new(scene.alloc, &mut scene.roster, units, seats)?;
+    let opened = Semaphore::new(scene.alloc, &mut scene.roster, units, seats)?;
     let end = end_of(scene.kernel, &scene.roster);
-    lay(scene.alloc, &mut scene.objects.pools, opened, end)
+    lay(scene.alloc, &mut scene.objects.semas, opened, end)
 }
 
 /// Makes a tag space, to which nobody has come yet.
 pub fn make_space(scene: &mut Scene, members: u64) -> Came {
-    let opened = Hall::new(scene.alloc, &mut scene.roster, members)?;
-    lay_hall(scene, opened)
+    let opened = Space::new(scene.alloc, &mut scene.roster, members)?;
+    lay_space(scene, opened)
 }
 
 /// Keeps a tag space, whose Rendez were given last.
-pub fn lay_hall(scene: &mut Scene, hall: Hall) -> Came {
+pub fn lay_space(scene: &mut Scene, space: Space) -> Came {
     let end = end_of(scene.kernel, &scene.roster);
-    lay(scene.alloc, &mut scene.objects.halls, hall, end)
+    lay(scene.alloc, &mut scene.objects.spaces, space, end)
 }
 
 /// Another space of the size of this one, to which nobody has come yet.
 pub fn make_group(scene: &mut Scene, object: u64) -> Came {
-    let Some(Some(hall)) = scene.objects.halls.get(index_of(object)) else {
+    let Some(
+        Row {
+            fresh: Some(space),
+            ..
+        },
+    ) = scene.objects.spaces.get(index_of(object))
+    else {
         return Ok(Answer::Word("no space"));
     };
-    let opened = hall.object.new_group(scene.alloc, &mut scene.roster)?;
-    lay_hall(scene, opened)
+    let opened = space.new_group(scene.alloc, &mut scene.roster)?;
+    lay_space(scene, opened)
 }
 
 /// Lets so many processes share the read end of a pipe, if nobody has it. Where that is refused the
@@ -134,7 +153,7 @@ pub fn make_group(scene: &mut Scene, object: u64) -> Came {
 pub fn share(scene: &mut Scene, object: u64, procs: u64) -> Came {
     let direction = scene.objects.direction(object, false)?;
     let taken = direction.read.take().ok_or(Fault::NoProc)?;
-    match Shared::new(scene.alloc, &mut scene.roster, taken, procs) {
+    match SharedEnd::new(scene.alloc, &mut scene.roster, taken, procs) {
         Ok(opened) => {
             let end = end_of(scene.kernel, &scene.roster);
             lay(scene.alloc, &mut scene.objects.shared, opened, end)
@@ -152,43 +171,20 @@ fn end_of(kernel: &Kernel, roster: &Roster<'static>) -> u64 {
 }
 
 // Keeps an object that was made, whose Rendez are below this end.
-fn lay<T: Drop>(alloc: Global, kept: &mut Vec<Option<Fresh<T>>>, opened: T, end: u64) -> Came {
-    let object = Box::new(alloc, opened)?;
-    add(kept, Some(Fresh { object, end }))
+fn lay<T: Drop>(alloc: Global, rows: &mut Vec<Row<T>>, opened: T, end: u64) -> Came {
+    let fresh = Some(Box::new(alloc, opened)?);
+    add(rows, Row { fresh, end })
 }
 
-/// What a process finds that comes to an object.
-#[derive(Drop)]
-pub enum Found<'a, T: Drop> {
-    /// Nobody came before it.
-    Mine(Box<T>),
-    /// Its kernel has not all Rendez of the object, which stays where it is.
-    Foreign(&'a mut T),
-    /// Somebody came before it, or there is no such object.
-    Nothing,
+/// Takes the object with this number, if there is one, and nobody has come to it.
+pub fn take<T: Drop>(rows: &mut Vec<Row<T>>, object: u64) -> Option<Box<T>> {
+    rows.get_mut(index_of(object))?.fresh.take()
 }
 
-/// What a process finds whose kernel has so many Rendez.
-pub fn find<T: Drop>(kept: &mut Vec<Option<Fresh<T>>>, object: u64, rendez: u64) -> Found<'_, T> {
-    let Some(place) = kept.get_mut(index_of(object)) else {
-        return Found::Nothing;
-    };
-    if is_known(place, rendez) {
-        return match place.take() {
-            Some(Fresh { object, .. }) => Found::Mine(object),
-            None => Found::Nothing,
-        };
-    }
-    match place {
-        Some(fresh) => Found::Foreign(&mut *fresh.object),
-        None => Found::Nothing,
-    }
-}
-
-// Whether it is still here, and all its Rendez are among the first so many.
-fn is_known<T: Drop>(place: &Option<Fresh<T>>, rendez: u64) -> bool {
-    match place {
-        Some(fresh) => fresh.end <= rendez,
+// Whether there is an object with this number, and not all its Rendez are among the first so many.
+fn ends_above<T: Drop>(rows: &Vec<Row<T>>, object: u64, rendez: u64) -> bool {
+    match rows.get(index_of(object)) {
+        Some(row) => row.end > rendez,
         None => false,
     }
 }
@@ -196,5 +192,5 @@ fn is_known<T: Drop>(place: &Option<Fresh<T>>, rendez: u64) -> bool {
 /// Makes timers, whose first seat is that of process 0.
 pub fn make_clock(scene: &mut Scene, seats: u64) -> Came {
     let clock = keep(scene.alloc, Clock::new(scene.alloc, seats)?)?;
-    add(&mut scene.objects.clocks, clock.first()?)
+    add(&mut scene.objects.clocks, clock.watch()?)
 }

@@ -1,8 +1,9 @@
-//! What each role makes of a call: none of one that needs a seat at timers which its process does
-//! not have.
+//! What each thing of a process makes of a call of its role: none of one that needs a seat at
+//! timers which the process does not have.
 use crate::caller::Means;
 use plan9::{
-    Fault, Guest, Holder, Long, Pid, Probe, Proc, Reader, RendezId, Sharer, ShortRead, Tag, Writer,
+    Fault, Long, Member, Pid, Probe, Proc, ReadCalls, ReadEnd, RendezId, Seat, Share, ShortRead,
+    Tag, WriteCalls, WriteEnd,
 };
 use scene_text::answer::{
     Answer, NOT_ITS_CALL, OK, done, have_piece, have_read, have_tried, have_written, numbered,
@@ -51,10 +52,11 @@ pub fn call_at_once(proc: &mut Proc, call: Call) -> Answer {
     }
 }
 
-/// A call of a process that reads a direction of a pipe or a stream.
+/// A call at the read end of a direction.
 pub fn call_reader(
     rt: &impl Wait,
-    reader: &mut Reader,
+    end: &mut ReadEnd,
+    proc: &mut Proc,
     means: &mut Means,
     call: Call,
     probe: &mut impl Probe,
@@ -62,23 +64,23 @@ pub fn call_reader(
     let Means { bytes, watch, .. } = means;
     Some(match call {
         _ if !make_room(bytes, call) => Answer::Fault(Fault::Memory),
-        Call::Read(_) => have_read(reader.read(rt, bytes.as_mut_slice())),
+        Call::Read(_) => have_read(end.read(rt, proc, bytes.as_mut_slice())),
         Call::ReadWithin(Deadline { now, ms }, _) => {
             let watch = watch.as_mut()?;
-            have_read(reader.read_within(rt, watch, now, ms, bytes.as_mut_slice()))
+            have_read(end.read_within(rt, proc, watch, now, ms, bytes.as_mut_slice()))
         }
-        Call::TryRead(_) => have_tried(reader.try_read(bytes.as_mut_slice())),
-        Call::ReadBlock => have_read(reader.read_block(rt, bytes)),
-        Call::NextPiece(_) => have_piece(reader.next_piece(rt, bytes.as_mut_slice())),
+        Call::TryRead(_) => have_tried(end.try_read(proc, bytes.as_mut_slice())),
+        Call::ReadBlock => have_read(end.read_block(rt, proc, bytes)),
+        Call::NextPiece(_) => have_piece(end.next_piece(rt, proc, bytes.as_mut_slice())),
         Call::ReadExact(_) => {
             let count = bytes.len();
-            have_filled(reader.read_exact(rt, bytes.as_mut_slice()), count)
+            have_filled(end.read_exact(rt, proc, bytes.as_mut_slice()), count)
         }
         Call::Hangup => {
-            reader.hangup();
+            end.hangup(proc);
             OK
         }
-        _ => return call_plain(rt, &mut reader.proc, means, call, probe),
+        _ => return call_plain(rt, proc, means, call, probe),
     })
 }
 
@@ -102,10 +104,11 @@ fn make_room(bytes: &mut Vec<u8>, call: Call) -> bool {
     bytes.resize(count as usize, 0).is_ok()
 }
 
-/// A call of a process that writes at a direction of a pipe or a stream.
+/// A call at a write end of a direction.
 pub fn call_writer(
     rt: &impl Wait,
-    writer: &mut Writer,
+    end: &mut WriteEnd,
+    proc: &mut Proc,
     means: &mut Means,
     call: Call,
     probe: &mut impl Probe,
@@ -113,27 +116,33 @@ pub fn call_writer(
     let alloc = means.alloc;
     let bytes = means.bytes.as_slice();
     Some(match call {
-        Call::Write => numbered("taken", writer.write(alloc, rt, bytes)),
+        Call::Write => numbered("taken", end.write(alloc, rt, proc, bytes)),
         Call::WriteWithin(Deadline { now, ms }) => {
             let watch = means.watch.as_mut()?;
-            let written = writer.write_within(alloc, rt, watch, now, ms, bytes);
+            let written = end.write_within(alloc, rt, proc, watch, now, ms, bytes);
             numbered("taken", written)
         }
-        Call::WriteLong => have_written(write_on(rt, alloc, writer, bytes)),
+        Call::WriteLong => have_written(write_on(rt, alloc, end, proc, bytes)),
         Call::Hangup => {
-            writer.hangup();
+            end.hangup(proc);
             OK
         }
-        _ => return call_plain(rt, &mut writer.proc, means, call, probe),
+        _ => return call_plain(rt, proc, means, call, probe),
     })
 }
 
 // A long write. Where it finds no memory it goes on once more, after what was taken.
-fn write_on(rt: &impl Wait, alloc: Global, writer: &mut Writer, bytes: &[u8]) -> Long {
-    let long = writer.write_long(alloc, rt, bytes);
+fn write_on(
+    rt: &impl Wait,
+    alloc: Global,
+    end: &mut WriteEnd,
+    proc: &mut Proc,
+    bytes: &[u8],
+) -> Long {
+    let long = end.write_long(alloc, rt, proc, bytes);
     match bytes.get(long.taken as usize..) {
         Some(rest) if long.fault == Some(Fault::Memory) => {
-            let again = writer.write_long(alloc, rt, rest);
+            let again = end.write_long(alloc, rt, proc, rest);
             let taken = long.taken.saturating_add(again.taken);
             Long { taken, ..again }
         }
@@ -141,65 +150,79 @@ fn write_on(rt: &impl Wait, alloc: Global, writer: &mut Writer, bytes: &[u8]) ->
     }
 }
 
-/// A call of a process that shares a read end with others.
-pub fn call_sharer(rt: &impl Wait, sharer: &mut Sharer, bytes: &mut Vec<u8>, call: Call) -> Answer {
+/// A call at a share of a read end.
+pub fn call_sharer(
+    rt: &impl Wait,
+    share: &mut Share,
+    proc: &mut Proc,
+    bytes: &mut Vec<u8>,
+    call: Call,
+) -> Answer {
     match call {
         Call::Read(_) if !make_room(bytes, call) => Answer::Fault(Fault::Memory),
-        Call::Read(_) => have_read(sharer.read(rt, bytes.as_mut_slice())),
+        Call::Read(_) => have_read(share.read(rt, proc, bytes.as_mut_slice())),
         _ => NOT_ITS_CALL,
     }
 }
 
-/// A call of a process with a seat at a semaphore.
+/// A call at a seat of a semaphore.
 pub fn call_holder(
     rt: &impl Wait,
-    holder: &mut Holder,
+    seat: &mut Seat,
+    proc: &mut Proc,
     means: &mut Means,
     call: Call,
     probe: &mut impl Probe,
 ) -> Option<Answer> {
     Some(match call {
-        Call::Acquire => done("acquired", holder.acquire_probed(rt, probe)),
-        Call::TryAcquire => {
-            let came = holder.try_acquire_probed(rt, probe);
-            Answer::Word(if came { "acquired" } else { "not now" })
-        }
+        Call::Acquire => done("acquired", seat.acquire_probed(rt, proc, probe)),
+        Call::TryAcquire => { have_tried_to_acquire(seat.try_acquire_probed(rt, proc, probe)) }
         Call::AcquireWithin(Deadline { now, ms }) => {
             let watch = means.watch.as_mut()?;
-            let came = holder.acquire_within_probed(rt, watch, now, ms, probe);
+            let came = seat.acquire_within_probed(rt, proc, watch, now, ms, probe);
             done("acquired", came)
         }
-        Call::Release(count) => numbered("value", holder.release(rt, count).map(u64::from)),
-        Call::Note(pid, notes) => done("ok", holder.postnote(Pid(pid), notes)),
-        Call::Notes => Answer::Notes("notes", holder.notes()),
-        Call::Rendez => Answer::Number("rendez", holder.rendez().0),
-        _ => NOT_ITS_CALL,
+        Call::Release(count) => numbered("value", seat.release(rt, proc, count).map(u64::from)),
+        Call::Rendez => Answer::Number("rendez", seat.rendez().0),
+        _ => call_at_once(proc, call),
     })
+}
+
+// Whether a unit came.
+fn have_tried_to_acquire(answer: Result<bool, Fault>) -> Answer {
+    match answer {
+        Ok(true) => Answer::Word("acquired"),
+        Ok(false) => Answer::Word("not now"),
+        Err(fault) => Answer::Fault(fault),
+    }
 }
 
 /// A call of a member of a tag space.
 pub fn call_guest(
     rt: &impl Wait,
-    guest: &mut Guest,
+    member: &mut Member,
+    proc: &mut Proc,
     means: &mut Means,
     call: Call,
     probe: &mut impl Probe,
 ) -> Option<Answer> {
     Some(match call {
         Call::Rendezvous(tag, value) => {
-            numbered("met", guest.rendezvous_probed(rt, Tag(tag), value, probe))
+            numbered(
+                "met",
+                member.rendezvous_probed(rt, proc, Tag(tag), value, probe),
+            )
         }
         Call::RendezvousWithin(Deadline { now, ms }, tag, value) => {
             let watch = means.watch.as_mut()?;
-            let met = guest.rendezvous_within_probed(rt, watch, now, ms, Tag(tag), value, probe);
+            let tag = Tag(tag);
+            let met = member.rendezvous_within_probed(rt, proc, watch, now, ms, tag, value, probe);
             numbered("met", met)
         }
         Call::RendezvousWord(tag, value) => {
-            numbered("met", guest.rendezvous_word(rt, Tag(tag), value))
+            numbered("met", member.rendezvous_word(rt, proc, Tag(tag), value))
         }
-        Call::Note(pid, notes) => done("ok", guest.postnote(Pid(pid), notes)),
-        Call::Notes => Answer::Notes("notes", guest.notes()),
-        Call::Rendez => Answer::Number("rendez", guest.rendez().0),
-        _ => NOT_ITS_CALL,
+        Call::Rendez => Answer::Number("rendez", member.rendez().0),
+        _ => call_at_once(proc, call),
     })
 }

@@ -1,92 +1,197 @@
-//! How a process is made and gets its role.
-use crate::caller::{Caller, Means, Member, OwnProc, Role, Seat, Turns};
-use crate::objects::{Found, Objects, find, lay_hall};
+//! How a process is made, with its first thing.
+use crate::caller::{Caller, Held, Means, OwnProc, Thing, last_of};
+use crate::objects::lay_space;
 use crate::progress::Progress;
 use crate::scene::{
-    Process, STRANGERS, Scene, State, begin, caller_at, caller_in, for_good, keep, process_in,
+    Process, STRANGERS, Scene, State, begin, caller_at, caller_in, keep, place_of, process_in,
     push, set,
 };
+use crate::things::{Spot, held_at, split, spot_of, thing_for};
 use plan9::{
-    Fault, Flags, ForkedGuest, Hall, Kernel, NoteSet, Pid, Reader, Refused, Roster, Started,
-    Unforked, UnforkedGuest, WriteEnd, Writer, fork_writers,
+    Fault, Flags, ForkedMember, Kernel, Member, NoteSet, Pid, Space, Started, UnforkedMember, fork,
+    forks,
 };
 use scene_text::answer::{Answer, Came, NOBODY, NOT_ITS_CALL, numbered};
 use scene_text::verbs::{RoleAt, RoleName};
 use std::alloc::Global;
-use std::mem;
 use std::sync::Wait;
 
 // ---- children
 
-/// `N fork`: a child of a holder, which holds as well. Where it is refused no pid is used up.
-pub fn fork_holder(rt: &impl Wait, scene: &mut Scene, number: u64) -> Came {
-    let Some(caller) = caller_in(&mut scene.processes, number) else {
+/// `N fork ROLE ..`, `N rfork FLAGS ROLE ..`: a child of the process with this number, in its role.
+pub fn fork_in_role(
+    rt: &impl Wait,
+    scene: &mut Scene,
+    number: u64,
+    flags: Flags,
+    role: RoleAt,
+) -> Came {
+    // whether a child is asked for, and nothing that the roster refuses
+    let makes_one = flags == Flags::RFPROC || is_alone(flags);
+    if proc_in(&mut scene.zero, &mut scene.processes, number).is_none() {
         return Ok(NOT_ITS_CALL);
-    };
-    let held = caller.held;
-    let Role::Holder(holder) = &mut caller.role else {
-        return Ok(NOT_ITS_CALL);
-    };
-    let child = holder.fork(rt, &mut scene.roster)?;
-    seat_role(scene, child.pid(), Role::Holder(child), held)
+    }
+    match role.name {
+        RoleName::Sharer if makes_one => {
+            if let Some(spot) = spot_of(&scene.processes, role) {
+                return fork_sharer(rt, scene, flags, spot);
+            }
+        }
+        RoleName::Writers if makes_one => return fork_each_writer(rt, scene, number, flags, role),
+        _ => {}
+    }
+    let parent = proc_in(&mut scene.zero, &mut scene.processes, number);
+    match scene.roster.rfork(parent.ok_or(Fault::NoProc)?, flags)? {
+        Some(proc) => place(rt, scene, proc, role),
+        None => Ok(NOBODY),
+    }
 }
+
+// Whether a child is asked for that is alone in its note group.
+fn is_alone(flags: Flags) -> bool {
+    flags == Flags::RFPROC.join(Flags::RFNOTEG)
+}
+
+/// `N fork`: a child of a holder, which holds as well.
+pub fn fork_holder(rt: &impl Wait, scene: &mut Scene, number: u64) -> Came {
+    match spot_in(&mut scene.processes, number, RoleName::Holder) {
+        Some(spot) => fork_beside(rt, scene, spot),
+        None => Ok(NOT_ITS_CALL),
+    }
+}
+
+// What the process with this number got last by a role of this name, if it is here.
+fn spot_in(processes: &mut Vec<Process>, number: u64, name: RoleName) -> Option<Spot> {
+    let process = place_of(processes, number)?;
+    let thing = last_of(&caller_at(processes, process)?.things, name)?;
+    Some(Spot { process, thing })
+}
+
+// One more that shares the end, a child of one that does, in its note group.
+fn fork_sharer(rt: &impl Wait, scene: &mut Scene, flags: Flags, spot: Spot) -> Came {
+    if is_alone(flags) {
+        return Ok(NOT_ITS_CALL);
+    }
+    fork_beside(rt, scene, spot)
+}
+
+// A child of the process at this spot, whose thing is split from the one there. Where it is refused
+// neither a pid nor a thing is used up.
+fn fork_beside(rt: &impl Wait, scene: &mut Scene, spot: Spot) -> Came {
+    let (pids, _) = scene.roster.left();
+    if pids == 0 {
+        return Err(Fault::NoProc);
+    }
+    let held = held_at(&mut scene.processes, spot).ok_or(Fault::NoProc)?;
+    let role = held.role;
+    let thing = split(rt, &mut held.thing)?;
+    let parent = caller_at(&mut scene.processes, spot.process).ok_or(Fault::NoProc)?;
+    let child = fork(&mut scene.roster, &mut parent.proc)?;
+    seat_child(scene, child, Held { role, thing })
+}
+
+// A child for each write end of a direction that nobody has, the first one's writer first. Where it
+// is refused no pid is used up. The answer is that of the last.
+fn fork_each_writer(
+    rt: &impl Wait,
+    scene: &mut Scene,
+    number: u64,
+    flags: Flags,
+    role: RoleAt,
+) -> Came {
+    let RoleAt { object, back, .. } = role;
+    let count = scene.objects.direction(object, back)?.writes.len();
+    let parent = proc_in(&mut scene.zero, &mut scene.processes, number).ok_or(Fault::NoProc)?;
+    let mut last = Ok(NOBODY);
+    for mut child in forks(scene.alloc, &mut scene.roster, parent, count as u64)? {
+        if is_alone(flags) {
+            let _ = scene.roster.rfork(&mut child, Flags::RFNOTEG);
+        }
+        let name = RoleName::Writer;
+        last = place(rt, scene, child, RoleAt { name, object, back });
+    }
+    last
+}
+
+// ---- children of guests
 
 /// `N rfork FLAGS`: a child of a guest, which is one as well; and else one alone. A new space has
 /// the next number.
 pub fn rfork_alone(rt: &impl Wait, scene: &mut Scene, number: u64, flags: Flags) -> Came {
-    let Some((guest, held)) = take_guest(&mut scene.processes, number) else {
-        return fork(rt, scene, number, flags, role_at(RoleName::Plain, 1));
+    match spot_in(&mut scene.processes, number, RoleName::Guest) {
+        Some(spot) => rfork_guest(rt, scene, spot, flags),
+        None => fork_in_role(rt, scene, number, flags, role_at(RoleName::Plain, 1)),
+    }
+}
+
+// The rfork of the guest at this spot.
+fn rfork_guest(rt: &impl Wait, scene: &mut Scene, spot: Spot, flags: Flags) -> Came {
+    let Some((member, role)) = take_member(&mut scene.processes, spot) else {
+        return Err(Fault::NoProc);
     };
-    match guest.rfork(scene.alloc, rt, &mut scene.roster, flags) {
-        Ok(ForkedGuest::Alone { guest }) => {
-            come_back(&mut scene.processes, number, guest);
+    let parent = caller_at(&mut scene.processes, spot.process).ok_or(Fault::NoProc)?;
+    match member.rfork(scene.alloc, rt, &mut scene.roster, &mut parent.proc, flags) {
+        Ok(ForkedMember::Alone { member }) => {
+            come_back(&mut scene.processes, spot, member);
             Ok(NOBODY)
         }
-        Ok(ForkedGuest::Child { guest, child }) => {
-            come_back(&mut scene.processes, number, guest);
-            seat_role(scene, child.pid(), Role::Guest(Some(child)), held)
+        Ok(
+            ForkedMember::Child {
+                member,
+                child,
+                childs,
+            },
+        ) => {
+            come_back(&mut scene.processes, spot, member);
+            let thing = Thing::Guest(Some(childs));
+            seat_child(scene, child, Held { role, thing })
         }
-        Ok(ForkedGuest::Apart { hall, proc, .. }) => move_apart(rt, scene, number, hall, proc),
-        Ok(ForkedGuest::ChildApart { guest, hall, child }) => {
-            come_back(&mut scene.processes, number, guest);
-            let held = new_space(scene, hall)?;
-            place(rt, scene, child, held)
+        Ok(ForkedMember::Apart { space, .. }) => move_apart(rt, scene, spot, space),
+        Ok(
+            ForkedMember::ChildApart {
+                member,
+                child,
+                space,
+            },
+        ) => {
+            come_back(&mut scene.processes, spot, member);
+            let role = new_space(scene, space)?;
+            place(rt, scene, child, role)
         }
-        Err(UnforkedGuest { guest, fault }) => {
-            come_back(&mut scene.processes, number, guest);
+        Err(UnforkedMember { member, fault }) => {
+            come_back(&mut scene.processes, spot, member);
             Err(fault)
         }
     }
 }
 
-// The guest with this number and its role, if it is here. It has no role until it comes back.
-fn take_guest(processes: &mut Vec<Process>, number: u64) -> Option<(Member, RoleAt)> {
-    let Caller { role, held, .. } = caller_in(processes, number)?;
-    match role {
-        Role::Guest(guest) => Some((guest.take()?, *held)),
+// The member at this spot, and its role. The process has none there until one comes back.
+fn take_member(processes: &mut Vec<Process>, spot: Spot) -> Option<(Member<'static>, RoleAt)> {
+    let Held { role, thing } = held_at(processes, spot)?;
+    match thing {
+        Thing::Guest(member) => Some((member.take()?, *role)),
         _ => None,
     }
 }
 
-// The guest with this number has its role again.
-fn come_back(processes: &mut Vec<Process>, number: u64, guest: Member) {
-    if let Some(caller) = caller_in(processes, number) {
-        set(&mut caller.role, Role::Guest(Some(guest)));
+// The process has its member again.
+fn come_back(processes: &mut Vec<Process>, spot: Spot, member: Member<'static>) {
+    if let Some(held) = held_at(processes, spot) {
+        set(&mut held.thing, Thing::Guest(Some(member)));
     }
 }
 
-// The process with this number is the first guest of a new space. Where it is refused it is gone.
-fn move_apart(rt: &impl Wait, scene: &mut Scene, number: u64, hall: Hall, proc: OwnProc) -> Came {
-    match first_guest(rt, scene, hall, proc) {
-        Ok((role, held)) => {
-            if let Some(caller) = caller_in(&mut scene.processes, number) {
-                set(&mut caller.role, role);
-                caller.held = held;
+// The guest at this spot is the first of a new space. Where it is refused it is gone.
+fn move_apart(rt: &impl Wait, scene: &mut Scene, spot: Spot, space: Space) -> Came {
+    match first_guest(rt, scene, spot, space) {
+        Ok(moved) => {
+            if let Some(held) = held_at(&mut scene.processes, spot) {
+                set(held, moved);
             }
             Ok(NOBODY)
         }
         Err(fault) => {
-            if let Some(process) = process_in(&mut scene.processes, number) {
+            if let Some(process) = scene.processes.get_mut(spot.process) {
                 set(&mut process.state, State::Gone);
             }
             Err(fault)
@@ -94,21 +199,21 @@ fn move_apart(rt: &impl Wait, scene: &mut Scene, number: u64, hall: Hall, proc: 
     }
 }
 
-// The role of a process that is the first guest of a new space.
-fn first_guest(
-    rt: &impl Wait,
-    scene: &mut Scene,
-    hall: Hall,
-    proc: OwnProc,
-) -> Result<(Role, RoleAt), Fault> {
-    let held = new_space(scene, hall)?;
-    Ok((role_for(rt, scene, proc, held)?, held))
+// The first member of a new space, for a process whose kernel has its Rendez.
+fn first_guest(rt: &impl Wait, scene: &mut Scene, spot: Spot, space: Space) -> Result<Held, Fault> {
+    let role = new_space(scene, space)?;
+    let guest = caller_at(&mut scene.processes, spot.process).ok_or(Fault::NoProc)?;
+    if scene.objects.is_above(role, guest.proc.rendez_count()) {
+        return Err(Fault::NoRendez);
+    }
+    let thing = thing_for(rt, scene, role)?;
+    Ok(Held { role, thing })
 }
 
 // A new space has the next number: the role of a guest there.
-fn new_space(scene: &mut Scene, hall: Hall) -> Result<RoleAt, Fault> {
-    lay_hall(scene, hall)?;
-    Ok(role_at(RoleName::Guest, scene.objects.halls.len() as u64))
+fn new_space(scene: &mut Scene, space: Space) -> Result<RoleAt, Fault> {
+    lay_space(scene, space)?;
+    Ok(role_at(RoleName::Guest, scene.objects.spaces.len() as u64))
 }
 
 // This role at the object with this number.
@@ -117,32 +222,7 @@ fn role_at(name: RoleName, object: u64) -> RoleAt {
     RoleAt { name, object, back }
 }
 
-/// `N fork ROLE ..`, `N rfork FLAGS ROLE ..`: a child of the process with this number, in its role.
-pub fn fork(rt: &impl Wait, scene: &mut Scene, number: u64, flags: Flags, role: RoleAt) -> Came {
-    // whether a child is asked for, and nothing that the roster refuses
-    let makes_one = flags == Flags::RFPROC || is_alone(flags);
-    if proc_in(&mut scene.zero, &mut scene.processes, number).is_none() {
-        return Ok(NOT_ITS_CALL);
-    }
-    match role.name {
-        RoleName::Sharer if makes_one && role_in(&mut scene.processes, role).is_some() => {
-            fork_sharer(rt, scene, flags, role)
-        }
-        RoleName::Writers if makes_one => fork_each_writer(scene, number, flags, role),
-        _ => {
-            let parent = proc_in(&mut scene.zero, &mut scene.processes, number);
-            match scene.roster.rfork(parent.ok_or(Fault::NoProc)?, flags)? {
-                Some(proc) => place(rt, scene, proc, role),
-                None => Ok(NOBODY),
-            }
-        }
-    }
-}
-
-// Whether a child is asked for that is alone in its note group.
-fn is_alone(flags: Flags) -> bool {
-    flags == Flags::RFPROC.join(Flags::RFNOTEG)
-}
+// ---- notes
 
 /// Posts notes to the group of a pid.
 pub fn note_group(scene: &mut Scene, number: u64, pid: u64, notes: NoteSet) -> Answer {
@@ -153,7 +233,7 @@ pub fn note_group(scene: &mut Scene, number: u64, pid: u64, notes: NoteSet) -> A
     numbered("noted", count)
 }
 
-// The process with this number, if it is here and its role lends it.
+// The process with this number, if it is here and one of its roles lends it.
 fn proc_in<'a>(
     zero: &'a mut OwnProc,
     processes: &'a mut Vec<Process>,
@@ -162,63 +242,22 @@ fn proc_in<'a>(
     if number == 0 {
         return Some(zero);
     }
-    match &mut caller_in(processes, number)?.role {
-        Role::Plain(proc) => Some(proc),
-        Role::Reader(reader) => Some(&mut reader.proc),
-        Role::Writer(writer) => Some(&mut writer.proc),
-        _ => None,
-    }
-}
-
-// ---- writers of a direction
-
-// A child for each write end of a direction that nobody has, the first one's writer first. Where it
-// is refused no pid is used up. The answer is that of the last.
-fn fork_each_writer(scene: &mut Scene, number: u64, flags: Flags, role: RoleAt) -> Came {
-    let parent = proc_in(&mut scene.zero, &mut scene.processes, number).ok_or(Fault::NoProc)?;
-    let ends = &mut scene.objects.direction(role.object, role.back)?.writes;
-    let mut last = Ok(NOBODY);
-    for mut writer in writers_of(scene.alloc, &mut scene.roster, parent, ends)? {
-        if is_alone(flags) {
-            let _ = scene.roster.rfork(&mut writer.proc, Flags::RFNOTEG);
-        }
-        last = seat_role(scene, writer.proc.pid(), Role::Writer(writer), role);
-    }
-    last
-}
-
-// The writers at these ends. Where they are refused the ends are there again.
-fn writers_of(
-    alloc: Global,
-    roster: &mut Roster<'static>,
-    parent: &mut OwnProc,
-    ends: &mut Vec<WriteEnd<'static>>,
-) -> Result<Vec<Writer<'static, 'static>>, Fault> {
-    let mut taken = mem::replace(ends, Vec::new(alloc));
-    taken.reverse();
-    match fork_writers(alloc, roster, parent, taken) {
-        Ok(writers) => Ok(writers),
-        Err(
-            Unforked {
-                ends: mut back,
-                fault,
-            },
-        ) => {
-            back.reverse();
-            set(ends, back);
-            Err(fault)
-        }
+    let Caller { proc, things, .. } = caller_in(processes, number)?;
+    if things.iter().any(|held| held.role.name.forks()) {
+        Some(proc)
+    } else {
+        None
     }
 }
 
 // ---- places
 
-// Gives a child its role and its place. A child whose role is refused is gone, and its pid is used
-// up.
+// Gives a child its thing and its place. A child that is refused its thing is gone, and its pid is
+// used up.
 fn place(rt: &impl Wait, scene: &mut Scene, proc: OwnProc, role: RoleAt) -> Came {
     let pid = proc.pid();
-    match role_for(rt, scene, proc, role) {
-        Ok(taken) => seat_role(scene, pid, taken, role),
+    match thing_for(rt, scene, role) {
+        Ok(thing) => seat_child(scene, proc, Held { role, thing }),
         Err(fault) => {
             let kernel = scene.kernel;
             let _ = seat(scene, pid.0, kernel, pid, State::Gone);
@@ -227,26 +266,29 @@ fn place(rt: &impl Wait, scene: &mut Scene, proc: OwnProc, role: RoleAt) -> Came
     }
 }
 
-// Gives a process of the scene's kernel its place, in its role.
-fn seat_role(scene: &mut Scene, pid: Pid, role: Role, held: RoleAt) -> Came {
+// Gives a process of the scene's kernel its place, with this thing.
+fn seat_child(scene: &mut Scene, proc: OwnProc, held: Held) -> Came {
     let kernel = scene.kernel;
-    let state = here(scene.alloc, role, held);
+    let pid = proc.pid();
+    let state = here(scene.alloc, proc, held)?;
     seat(scene, pid.0, kernel, pid, state)
 }
 
-// A process in its role, which has made no call yet.
-fn here(alloc: Global, role: Role, held: RoleAt) -> State {
+// A process with this thing, which has made no call yet.
+fn here(alloc: Global, proc: OwnProc, held: Held) -> Result<State, Fault> {
     let means = Means {
         alloc,
         bytes: Vec::new(alloc),
         watch: None,
     };
-    State::Here(Caller {
-        role,
+    let mut things = Vec::new(alloc);
+    push(&mut things, held)?;
+    Ok(State::Here(Caller {
+        proc,
+        things,
         means,
         visits: Vec::new(alloc),
-        held,
-    })
+    }))
 }
 
 // Puts a process of this kernel after those that are there.
@@ -272,98 +314,12 @@ pub fn seat_stranger(
 ) -> Came {
     let made = begin(scene.alloc, Kernel::new(scene.alloc, procs, rendez));
     let (kernel, Started { proc, .. }) = made?;
-    let taken = role_for(rt, scene, proc, role)?;
+    if scene.objects.is_above(role, rendez) {
+        return Err(Fault::NoRendez);
+    }
+    let thing = thing_for(rt, scene, role)?;
     let number = STRANGERS.saturating_add(scene.strangers);
     scene.strangers = scene.strangers.saturating_add(1);
-    let state = here(scene.alloc, taken, role);
+    let state = here(scene.alloc, proc, Held { role, thing })?;
     seat(scene, number, kernel, Pid(0), state)
-}
-
-// ---- roles
-
-// The role of a process, with the end or the seat that it takes. Who is refused takes nothing
-// along.
-fn role_for(rt: &impl Wait, scene: &mut Scene, proc: OwnProc, role: RoleAt) -> Result<Role, Fault> {
-    let RoleAt { name, object, back } = role;
-    Ok(match name {
-        RoleName::Plain => Role::Plain(proc),
-        RoleName::Reader => {
-            let end = scene.objects.direction(object, back)?.read.take();
-            Role::Reader(Reader::new(end.ok_or(Fault::NoProc)?, proc))
-        }
-        RoleName::Writer => {
-            let end = scene.objects.direction(object, back)?.writes.pop();
-            Role::Writer(Writer::new(end.ok_or(Fault::NoProc)?, proc))
-        }
-        RoleName::Holder => Role::Holder(hold(rt, scene, proc, role)?),
-        RoleName::Guest => Role::Guest(Some(admit(rt, scene, proc, role)?)),
-        RoleName::Sharer => Role::Sharer(first_sharer(&mut scene.objects, proc, object)?),
-        RoleName::Writers => return Err(Fault::NoProc),
-    })
-}
-
-// The first process at a pool, or one more beside one that is there.
-fn hold(rt: &impl Wait, scene: &mut Scene, proc: OwnProc, role: RoleAt) -> Result<Seat, Fault> {
-    match find(&mut scene.objects.pools, role.object, proc.rendez_count()) {
-        Found::Mine(pool) => Ok(for_good(pool).first(proc)?),
-        Found::Foreign(pool) => Err(why_not(pool.first(proc))),
-        Found::Nothing => match role_in(&mut scene.processes, role) {
-            Some(Role::Holder(holder)) => Ok(holder.join(rt, proc)?),
-            _ => Err(Fault::NoProc),
-        },
-    }
-}
-
-// The first process in a tag space, or one more beside one that is there.
-fn admit(rt: &impl Wait, scene: &mut Scene, proc: OwnProc, role: RoleAt) -> Result<Member, Fault> {
-    match find(&mut scene.objects.halls, role.object, proc.rendez_count()) {
-        Found::Mine(hall) => Ok(for_good(hall).first(proc)?),
-        Found::Foreign(hall) => Err(why_not(hall.first(proc))),
-        Found::Nothing => match role_in(&mut scene.processes, role) {
-            Some(Role::Guest(Some(guest))) => Ok(guest.join(rt, proc)?),
-            _ => Err(Fault::NoProc),
-        },
-    }
-}
-
-// The first that has turns at a shared end.
-fn first_sharer(objects: &mut Objects, proc: OwnProc, object: u64) -> Result<Turns, Fault> {
-    match find(&mut objects.shared, object, proc.rendez_count()) {
-        Found::Mine(shared) => Ok(for_good(shared).first(proc)?),
-        Found::Foreign(shared) => Err(why_not(shared.first(proc))),
-        Found::Nothing => Err(Fault::NoProc),
-    }
-}
-
-// Why a process can't be the first at an object: its kernel has too few Rendez.
-fn why_not<T: Drop>(first: Result<T, Refused<'_>>) -> Fault {
-    match first {
-        Ok(_) => Fault::Device,
-        Err(Refused { proc: _, fault }) => fault,
-    }
-}
-
-// One more that shares the end, a child of one that does, in its note group.
-fn fork_sharer(rt: &impl Wait, scene: &mut Scene, flags: Flags, held: RoleAt) -> Came {
-    if is_alone(flags) {
-        return Ok(NOT_ITS_CALL);
-    }
-    let Some(Role::Sharer(sharer)) = role_in(&mut scene.processes, held) else {
-        return Err(Fault::NoProc);
-    };
-    let child = sharer.fork(rt, &mut scene.roster)?;
-    seat_role(scene, child.pid(), Role::Sharer(child), held)
-}
-
-// The first that is here in the role of this name, at the object with this number.
-fn role_in(processes: &mut Vec<Process>, held: RoleAt) -> Option<&mut Role> {
-    let mut found = None;
-    for (at, process) in processes.iter().enumerate() {
-        if let State::Here(Caller { held: other, .. }) = &process.state {
-            if found.is_none() && other.name == held.name && other.object == held.object {
-                found = Some(at);
-            }
-        }
-    }
-    Some(&mut caller_at(processes, found?)?.role)
 }

@@ -15,9 +15,9 @@ use Rattle.pipe_dev.specs.ReadCalls.{AsksForBytes, Calling, Reads}
 use Rattle.pipe_dev.specs.Rendezes.{reader_rendez}
 use Rattle.pipe_dev.proofs.AskedLemmas.{LastAsked, last_asked}
 use Rattle.pipe_dev.specs.Rounds.{Rounds}
-use Rattle.plan9.specs.declared.pipes.Reader.{Reader}
-use Rattle.plan9.specs.Readings.{Filling, FillsUp, GoesOn, IsSameReader, LiesIn, ReadsAfter}
-use Rattle.plan9.specs.Readings.{ReadsBy, ReadsPiece, filling, read_answer}
+use Rattle.plan9.specs.Callers.{Reader, IsSameReader}
+use Rattle.plan9.specs.Readings.{Filling, FillsUp, GoesOn, LiesIn, ReadsAfter}
+use Rattle.plan9.specs.Readings.{ReadsPiece, filling, read_answer}
 
 -- what was read lies in the buffer
 got_fits : (key : Key) (row : Row) (old : Calling) (count : ℕ) (new : Calling)

@@ -1,7 +1,10 @@
 -- What a call of a shared end is, in the words of the end that lay there.
-use Rattle.std.proofs.Common.{◌≡◌, ℕ, true, List, Option, Some, None, Result, Ok, Err}
-use Rattle.std.proofs.Common.{IfOk, OnErr, inr, ◌∙◌}
+use Rattle.std.proofs.Common.{◌≡◌, ◌↔◌, ◌⊎◌, ◌+◌, ℕ, true, List, Option, Some, None, Result, Ok}
+use Rattle.std.proofs.Common.{Err, IsErrOf, IfOk, OnErr, arith, inl, inr, ⊎_elim, ◌∙◌}
+use Rattle.std.proofs.lemmas.Bool.{cases_lt}
 use Rattle.sync_base.specs.declared.fault.Fault.{Fault}
+use Rattle.sync_base.specs.declared.fault.Fault.TheVariants.{NoRendez}
+use Rattle.rendez_words.specs.Words.{rendez_of}
 use Rattle.sleep_wakeup.specs.Kernel.{Running}
 use Rattle.block_queue.specs.Seats.{key_of}
 use Rattle.pipe_dev.specs.declared.answers.ReadAnswer.{ReadAnswer}
@@ -9,29 +12,27 @@ use Rattle.pipe_dev.specs.declared.answers.TryAnswer.{TryAnswer}
 use Rattle.pipe_dev.specs.declared.answers.TryAnswer.TheVariants as try
 use Rattle.pipe_dev.specs.Ends.{ReadSide, IsSameReadEnd}
 use Rattle.pipe_dev.specs.ReadCalls.{Tries, calling}
-use Rattle.plan9.specs.declared.pipes.Reader.{Reader}
-use Rattle.plan9.specs.declared.sharing.Sharer.{Sharer}
-use Rattle.plan9.specs.Pools.{Holding, IsSameHolder}
-use Rattle.plan9.specs.Readings.{LiesIn, read_answer}
 use Rattle.plan9.specs.declared.place.Receipt.{Receipt}
+use Rattle.plan9.specs.Callers.{Reader, reader}
 use Rattle.plan9.specs.Places.{IsLaid}
+use Rattle.plan9.specs.Readings.{LiesIn, read_answer}
+use Rattle.plan9.specs.Semaphores.{Seated, IsSameSeat}
 use Rattle.plan9.specs.Sharings.{AsksForTurn, AsksNow, Buffers, CallsAndLays, HasTurn, InTurn}
-use Rattle.plan9.specs.Sharings.{ReadsOnce, TriesBy, TriesInTurn, TriesOnce, reader}
+use Rattle.plan9.specs.Sharings.{KnowsTurns, ReadsOnce, Sharer, TriesBy, TriesInTurn, TriesOnce}
+use Rattle.plan9.specs.Sharings.{Turn, turn}
 use Rattle.plan9.proofs.ReadingLemmas.{piece_lies}
 
 -- a call of the end that lay there is one of the shared end, as it has the same direction; and
 -- what was laid down lies there
-pub calls_shared : (end lay lies : ReadSide) (old new : Holding) (running : Running)
+pub calls_shared : (end lay lies : ReadSide) (old new : Running)
     (Call : Reader → Reader → Type 0)
     → IsSameReadEnd end lay
-    → running ≡ old.running
-    → IsSameHolder old new
-    → new.seat ≡ old.seat
     → IsSameReadEnd lay lies
-    → Call (reader lay running) (reader lies new.running)
+    → Call (reader lay old) (reader lies new)
+    → new.words ≡ old.words
     → (laid : Receipt) → IsLaid lies laid
     → CallsAndLays end old Call laid new
-calls_shared end lay lies old new running Call same runs holder seat kept call laid is =
+calls_shared end lay lies old new Call same kept call words laid is =
     record {
       calls = record {
         lay = lay;
@@ -41,28 +42,11 @@ calls_shared end lay lies old new running Call same runs holder seat kept call l
           queue = kept.queue ∙ same.queue;
           row = kept.row ∙ same.row;
         };
-        called = rw (← runs) call;
-        same = holder;
-        seat_is = seat;
+        called = call;
+        words_are = words;
       };
       laid_is = is;
     }
-
--- whatever it was answered, it had its turn
-pub has_turn : (Call : Buffers → Result ReadAnswer Fault → Reader → Reader → Type 0)
-    (old : Sharer) (buffer : Buffers) (answer : Result ReadAnswer Fault) (new : Sharer)
-    → HasTurn (AsksForTurn (Ok tt)) old (Call buffer answer) new → InTurn Call old buffer answer new
-has_turn Call old buffer (Ok answer) new turn = turn
-has_turn Call old buffer (Err why) new turn = inr turn
-
--- and so where it waited for none
-pub has_turn_now : (old : Sharer) (buffer : Buffers) (answer : Result TryAnswer Fault)
-    (new : Sharer) → HasTurn (AsksNow true) old (TriesOnce buffer answer) new
-    → TriesInTurn old buffer answer new
-has_turn_now old buffer (Ok try.NotYet) new turn = inr turn
-has_turn_now old buffer (Ok (try.Got count)) new turn = turn
-has_turn_now old buffer (Ok try.End) new turn = turn
-has_turn_now old buffer (Err why) new turn = turn
 
 -- what a read that doesn't wait tells, by its answer
 pub tries_by : (old : Reader) (buffer : List ℕ) (answer : Result TryAnswer Fault) (new : Reader)
@@ -75,6 +59,45 @@ pub tries_by : (old : Reader) (buffer : List ℕ) (answer : Result TryAnswer Fau
     → TriesBy old buffer answer new buffer'
 tries_by old buffer (Ok answer) new buffer' tries refused = tries
 tries_by old buffer (Err why) new buffer' tries refused = refused
+
+-- ---- who may ask for a turn
+
+may_ask : (turn : Turn) → KnowsTurns turn ⊎ ¬ KnowsTurns turn
+may_ask turn =
+    let sema = turn.seat.sema in
+    ⊎_elim (λ few. inr (λ may. omega arith)) (λ may. inl may)
+    (cases_lt (rendez_of turn.proc.words) (sema.first + sema.procs))
+
+-- who was not refused may
+pub who_asked_may : {A : Type 0} (turn : Turn) (answer : A)
+    → (IsErrOf (Ok answer) NoRendez ↔ ¬ KnowsTurns turn) → KnowsTurns turn
+who_asked_may turn answer no_rendez =
+    ⊎_elim (λ may. may) (λ may_not. let no = no_rendez.1 may_not in cc) (may_ask turn)
+
+-- and may still, when it has called
+pub may_still : (old : Turn) (seat : Seated) (begun called : Running) → KnowsTurns old
+    → IsSameSeat old.seat seat → begun.words ≡ old.proc.words → called.words ≡ begun.words
+    → KnowsTurns (turn seat called)
+may_still old seat begun called may same asked words =
+    rw same.sema_is (rw (words ∙ asked) may)
+
+-- ---- who has had a turn
+
+-- whatever it was answered, it had its turn
+pub has_turn : (Call : Buffers → Result ReadAnswer Fault → Reader → Reader → Type 0)
+    (old : Sharer) (buffer : Buffers) (answer : Result ReadAnswer Fault) (new : Sharer)
+    → HasTurn (AsksForTurn (Ok tt)) old (Call buffer answer) new → InTurn Call old buffer answer new
+has_turn Call old buffer (Ok answer) new turn = turn
+has_turn Call old buffer (Err why) new turn = inr (inr turn)
+
+-- and so where it waited for none
+pub has_turn_now : (old : Sharer) (buffer : Buffers) (answer : Result TryAnswer Fault)
+    (new : Sharer) → HasTurn (AsksNow true) old (TriesOnce buffer answer) new
+    → TriesInTurn old buffer answer new
+has_turn_now old buffer (Ok try.NotYet) new turn = inr turn
+has_turn_now old buffer (Ok (try.Got count)) new turn = turn
+has_turn_now old buffer (Ok try.End) new turn = turn
+has_turn_now old buffer (Err why) new turn = inr turn
 
 -- a piece that was read in turn lies in the buffer
 pub piece_lies_in_turn : (old : Sharer) (buffer : Buffers) (answer : Result (Option ℕ) Fault)

@@ -12,7 +12,7 @@ use Rattle.sync_base.specs.declared.fault.Fault.TheVariants as fault
 use Rattle.sync_base.specs.declared.limits.TheConstants.{ATOMIC_SIZE}
 use Rattle.pipe_dev.specs.Rounds.{Rounds}
 use Rattle.pipe_dev.specs.Rendezes.{OwnsRow}
-use Rattle.plan9.specs.declared.pipes.Writer.{Writer}
+use Rattle.plan9.specs.Callers.{Writer}
 use Rattle.plan9.specs.Streams.{Lent, EndsTaking, PassesEmpty, Streams, Takes, kind_of}
 use Rattle.plan9.specs.Streams.{WritesFront, WritesOnce, front_of}
 

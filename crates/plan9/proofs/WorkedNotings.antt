@@ -14,10 +14,10 @@ use Rattle.rendez_words.specs.Steps.{drains, notes}
 use Rattle.sleep_wakeup.specs.Kernel.{Running}
 use Rattle.pipe_dev.specs.Ends.{WriteSide}
 use Rattle.pipe_dev.specs.Rendezes.{OwnsRow}
-use Rattle.plan9.specs.declared.pipes.Writer.{Writer}
+use Rattle.plan9.specs.Callers.{Writer, IsSameWriter, writer}
 use Rattle.plan9.specs.Notings.{AreOthers, ArePending, Keeps, TakesNote, TakesItsNoteBack}
-use Rattle.plan9.specs.Notings.{LeavesNoNote, WritesUnnoted, writer}
-use Rattle.plan9.specs.Streams.{IsSameWriter, WritesOnce}
+use Rattle.plan9.specs.Notings.{LeavesNoNote, WritesUnnoted}
+use Rattle.plan9.specs.Streams.{WritesOnce}
 
 -- ---- the others
 

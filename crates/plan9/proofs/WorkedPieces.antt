@@ -4,14 +4,11 @@ use Rattle.std.proofs.Common.{ap, arith, Option, Some, None, Result, Ok, Err}
 use Rattle.std.specs.Prelude.{⊤}
 use Rattle.std.specs.declared.io.Error.{Error}
 use Rattle.sync_base.specs.declared.fault.Fault.{Fault}
-use Rattle.pipe_dev.specs.declared.answers.ReadAnswer.{ReadAnswer}
-use Rattle.pipe_dev.specs.declared.answers.ReadAnswer.TheVariants as read
 use Rattle.pipe_dev.specs.Ends.{IsSameReadEnd}
 use Rattle.pipe_dev.specs.Rounds.{Rounds}
-use Rattle.plan9.specs.declared.pipes.Reader.{Reader}
-use Rattle.plan9.specs.declared.pipes.Writer.{Writer}
-use Rattle.plan9.specs.declared.reading.ShortRead.{ShortRead}
-use Rattle.plan9.specs.Readings.{Filling, IsSameReader, LiesIn, ReadsBy, ReadsPiece, ReadsAfter}
+use Rattle.plan9.specs.Callers.{Reader, Writer, IsSameReader}
+use Rattle.plan9.specs.declared.ends.ShortRead.{ShortRead}
+use Rattle.plan9.specs.Readings.{Filling, LiesIn, ReadsBy, ReadsPiece, ReadsAfter}
 use Rattle.plan9.specs.Readings.{GoesOn, Stops, EndsFilling, FillsUp, filling, read_answer}
 use Rattle.plan9.specs.Readings.{stopped}
 use Rattle.plan9.specs.Streams.{Lent, Takes, PassesEmpty, EndsTaking, TakesNext, TakesNothing}

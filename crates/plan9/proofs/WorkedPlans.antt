@@ -1,28 +1,7 @@
--- What no plan counts, what is not spare, what is no fork, and what no ticker does: each against
--- one row.
-use Rattle.std.proofs.Common.{◌≡◌, ◌≢◌, ◌<◌, ◌≤◌, ◌+◌, ℕ, false, Some, Ok, Err, arith}
-use Rattle.sync_base.specs.declared.fault.Fault.TheVariants as fault
+-- What no plan counts: each against one row.
+use Rattle.std.proofs.Common.{◌≡◌, ◌<◌, ◌≤◌, ◌+◌, ℕ, arith}
 use Rattle.sync_base.specs.declared.limits.TheConstants.{MAX_PROCS, MAX_RENDEZ}
-use Rattle.rendez_words.specs.declared.words.Words.{Words}
-use Rattle.sleep_wakeup.specs.Forks.{HasPid}
-use Rattle.sleep_wakeup.specs.Kernel.{Running, Unused, next_process, one_pid_less}
-use Rattle.tag_space.specs.declared.member.Member.{Member}
-use Rattle.tag_space.specs.declared.space.TagSpace.{TagSpace}
-use Rattle.tag_space.specs.Members.{IsMemberOf, OwnsRow}
-use Rattle.semaphore.specs.declared.sema.Sema.{Sema}
-use Rattle.semaphore.specs.declared.sema.SemaSeat.{SemaSeat}
-use Rattle.timer_list.specs.declared.timers.Timers.{Timers}
-use Rattle.timer_list.specs.declared.timers.TimerSeat.{TimerSeat}
-use Rattle.semaphore.specs.Seats.{IsSemaSeatOf}
-use Rattle.timer_list.specs.Seats.{IsTimerSeatOf}
-use Rattle.plan9.specs.Forkings.{ForksOne}
-use Rattle.plan9.specs.Halls.{IsRowOfSpace, IsSpareMember, IsAdmitted}
 use Rattle.plan9.specs.Plans.{Planned, IsPlan, CountsProcs, CountsProcsAlone, CountsRendez, Seats}
-use Rattle.plan9.specs.Pools.{IsSpareOf}
-use Rattle.plan9.specs.Vacancies.{IsRowOf}
-use Rattle.plan9.specs.Watches.{IsSpareTimer}
-
--- ---- plans
 
 -- so many processes and Rendez
 abbrev counted : ℕ → ℕ → Planned
@@ -74,53 +53,6 @@ an_object_wants_a_rendez_for_each : ¬ Seats 2 (counted 2 0) (counted 2 1)
 an_object_wants_a_rendez_for_each seats =
     let two = seats.rendez.more (omega arith) in omega (arith, two)
 
--- ---- what is not spare
-
-module _ (sema : Sema) (seat : SemaSeat) where
-  a_seat_of_another_semaphore : ¬ IsSemaSeatOf sema seat → ¬ IsSpareOf sema (Some seat)
-  a_seat_of_another_semaphore other spare = other spare
-
-  a_semaphore_of_another_row : sema.first ≢ 3 → ¬ IsRowOf sema 3 2
-  a_semaphore_of_another_row other row = other row.first_is
-
-module _ (timers : Timers) (seat : TimerSeat) where
-  a_seat_of_other_timers : ¬ IsTimerSeatOf timers seat → ¬ IsSpareTimer timers (Some seat)
-  a_seat_of_other_timers other spare = other spare
-
-module _ (space : TagSpace) (member : Member) where
-  a_member_of_another_space : ¬ IsMemberOf space member → ¬ IsSpareMember space (Some member)
-  a_member_of_another_space other spare = other spare
-
-  a_space_of_another_row : space.first.0 ≢ 3 → ¬ IsRowOfSpace space 3 2
-  a_space_of_another_row other row = other row.first_is
-
-  a_space_for_another_count : space.procs ≢ 2 → ¬ IsRowOfSpace space 3 2
-  a_space_for_another_count other row = other row.procs_are
-
-  admitted_without_its_rendez : (words : Words) → ¬ OwnsRow space words
-      → ¬ IsAdmitted space words member
-  admitted_without_its_rendez words other admitted = other admitted.row
-
--- ---- a fork
-
-module _ (parent : ℕ) (before after : Unused) (child : Running) where
-  fork_without_a_pid : ¬ HasPid before → ¬ ForksOne parent before (Ok child) after
-  fork_without_a_pid none forked = none forked.0
-
-  fork_of_another_process : child ≢ next_process before
-      → ¬ ForksOne parent before (Ok child) after
-  fork_of_another_process other forked = other forked.1
-
-  fork_in_another_group : after ≢ one_pid_less parent false before
-      → ¬ ForksOne parent before (Ok child) after
-  fork_in_another_group other forked = other forked.2
-
-  no_fork_for_want_of_memory : ¬ ForksOne parent before (Err fault.Memory) after
-  no_fork_for_want_of_memory refused =
-      let no : fault.Memory ≡ fault.NoProc = refused.0 in cc
-
-  no_fork_where_a_pid_is_left : HasPid before → ¬ ForksOne parent before (Err fault.NoProc) after
-  no_fork_where_a_pid_is_left left refused = refused.1 left
-
-  refused_fork_uses_a_pid_up : after ≢ before → ¬ ForksOne parent before (Err fault.NoProc) after
-  refused_fork_uses_a_pid_up other refused = other refused.2
+who_wants_more_gets_them : ¬ CountsProcs 3 (counted 1 0) (counted 1 0)
+who_wants_more_gets_them counts =
+    let three = counts.more (omega arith) (omega arith) in omega (arith, three)

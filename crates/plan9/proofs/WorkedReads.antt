@@ -1,26 +1,14 @@
--- What a read, a write and a turn are, and what no stream answers: each against one row.
-use Rattle.std.proofs.Common.{◌≡◌, ◌≤◌, ◌+◌, ℕ, List, length, Option, Some, Result, Ok, Err, ap}
-use Rattle.std.specs.Prelude.{⊤}
+-- What a read and a write are, and what no stream answers: each against one row.
+use Rattle.std.proofs.Common.{◌≡◌, ◌≤◌, ℕ, List, length, Option, Some, Ok, Err, ap}
 use Rattle.std.specs.declared.io.Error.{Error}
 use Rattle.sync_base.specs.declared.fault.Fault.{Fault}
 use Rattle.sync_base.specs.declared.fault.Fault.TheVariants as fault
-use Rattle.semaphore.specs.Acquiring.{units_of}
-use Rattle.semaphore.specs.Seats.{units_given}
 use Rattle.pipe_dev.specs.ReadCalls.{Calling}
 use Rattle.pipe_dev.specs.WriteCalls.{writer_of}
-use Rattle.plan9.specs.declared.pipes.Reader.{Reader}
-use Rattle.plan9.specs.declared.pipes.Writer.{Writer}
-use Rattle.plan9.specs.Pools.{Holding, got}
+use Rattle.plan9.specs.Callers.{Reader, Writer}
 use Rattle.plan9.specs.Readings.{ReadsBy}
-use Rattle.plan9.specs.Sharings.{AsksForTurn}
 use Rattle.plan9.specs.Streams.{Lent, Takes, TakesNothing, WritesNothing, WritesOnce, EndsWriting}
 use Rattle.plan9.specs.Streams.{WritesFront}
-
--- who asks for a turn acquires the unit, or says why not
-who_asks_for_a_turn_acquires : (old new : Holding) (answer : Result ⊤ Fault)
-    → AsksForTurn answer old new
-    → units_given new.seat ≡ units_given old.seat + units_of (got answer)
-who_asks_for_a_turn_acquires old new answer asks = asks.units
 
 -- a read that is refused leaves its buffer as it was
 a_refused_read_leaves_the_buffer : (old new : Reader) (buffer buffer' : List ℕ)

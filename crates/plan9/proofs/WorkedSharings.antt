@@ -1,13 +1,9 @@
 -- What is no shared end, nobody who shares one and no turn: each against one row of what the calls
 -- of a shared end say.
-use Rattle.std.proofs.Common.{◌≡◌, ◌≢◌, ◌<◌, ◌≤◌, ℕ, true, false, List, [], Result, Ok, Err}
+use Rattle.std.proofs.Common.{◌≡◌, ◌≢◌, ℕ, true, false, List, [], Result, Ok, Err}
 use Rattle.std.proofs.Common.{Bool, IfErr, IfSome, None, Some, inl, inr, refl, ⊎_elim, ap, subst}
 use Rattle.sync_base.specs.declared.fault.Fault.{Fault}
 use Rattle.sync_base.specs.declared.fault.Fault.TheVariants as fault
-use Rattle.sync_base.specs.declared.note.NoteSet.{NoteSet}
-use Rattle.sync_base.specs.declared.ids.Pid.{Pid}
-use Rattle.rendez_words.specs.Steps.{notes, drains}
-use Rattle.rendez_words.specs.Words.{procs_of}
 use Rattle.sleep_wakeup.specs.Kernel.{Running, Unused, HasRendez, rendez_less}
 use Rattle.semaphore.specs.Acquiring.{Semacquires}
 use Rattle.semaphore.specs.Opening.{WhyNotOpened}
@@ -22,28 +18,27 @@ use Rattle.pipe_dev.specs.declared.answers.TryAnswer.{TryAnswer}
 use Rattle.pipe_dev.specs.declared.answers.TryAnswer.TheVariants as try
 use Rattle.pipe_dev.specs.Ends.{ReadSide, IsSameReadEnd}
 use Rattle.pipe_dev.specs.Rendezes.{OwnsRow}
-use Rattle.plan9.specs.declared.pipes.Reader.{Reader}
-use Rattle.plan9.specs.declared.sharing.Shared.{Shared}
-use Rattle.plan9.specs.declared.sharing.Sharer.{Sharer}
-use Rattle.plan9.specs.declared.sharing.Unshared.{Unshared}
-use Rattle.plan9.specs.Pools.{Holding, IsNewPool, IsFirstHolder, ForksHolder, IsSameHolder, got_now}
-use Rattle.plan9.specs.Pools.{holder_point}
-use Rattle.plan9.specs.Readings.{ReadsBy}
-use Rattle.plan9.specs.Sharings.{Buffers, IsNewShared, IsNotShared, IsFirstSharer, IsSameSharer}
+use Rattle.waiting.specs.Waiting.{point}
 use Rattle.plan9.specs.declared.place.Lying.{Lying}
 use Rattle.plan9.specs.declared.place.Receipt.{Receipt}
 use Rattle.plan9.specs.declared.place.Swapped.{Swapped}
+use Rattle.plan9.specs.declared.shares.Share.{Share}
+use Rattle.plan9.specs.declared.shares.SharedEnd.{SharedEnd}
+use Rattle.plan9.specs.declared.shares.Unshared.{Unshared}
+use Rattle.plan9.specs.Callers.{Reader, reader}
 use Rattle.plan9.specs.Places.{IsLaid, Swaps, end_in}
-use Rattle.plan9.specs.Sharings.{ForksSharer, GivesTurnBack, AsksForTurn, AsksNow, CallsShared}
-use Rattle.plan9.specs.Sharings.{CallsAndLays}
-use Rattle.plan9.specs.Sharings.{HasNoTurn, HasTurn, InTurn, PostsAsSharer, ReadsBlockOnce}
-use Rattle.plan9.specs.Sharings.{ReadsOnce, TakesNotes, TriesInTurn, TriesOnce, buffers}
-use Rattle.plan9.specs.Sharings.{first_end, end_of, reader}
+use Rattle.plan9.specs.Readings.{ReadsBy}
+use Rattle.plan9.specs.Semaphores.{IsFirst, IsFurther, IsNew, IsSameSeat, got_now}
+use Rattle.plan9.specs.Sharings.{AsksForTurn, AsksNow, Buffers, CallsAndLays, CallsShared}
+use Rattle.plan9.specs.Sharings.{GivesTurnBack, HasNoTurn, HasTurn, InTurn, IsFirstShare}
+use Rattle.plan9.specs.Sharings.{IsFurtherShare, IsNewShared, IsNotShared, IsSameShare, KnowsTurns}
+use Rattle.plan9.specs.Sharings.{MayNotAsk, ReadsBlockOnce, ReadsOnce, Sharer, TriesInTurn}
+use Rattle.plan9.specs.Sharings.{TriesOnce, Turn, buffers, end_of, first_end, turn_of}
 
 -- ---- how an end is shared
 
 module _ (before after : Unused) (end : ReadSide) (procs : ℕ) where
-  module _ (shared : Shared) where
+  module _ (shared : SharedEnd) where
     -- too many processes share it, or there are too few Rendez
     too_many_share : (IsProcCount procs → ⊥) → IsNewShared before end procs shared after → ⊥
     too_many_share many new = many new.in_range
@@ -53,7 +48,7 @@ module _ (before after : Unused) (end : ReadSide) (procs : ℕ) where
     rendez_are_missing few new = few new.room
 
     -- two have a turn at once, or it is another end
-    two_have_a_turn : (IsNewPool before 1 procs shared.turns → ⊥)
+    two_have_a_turn : (IsNew before 1 procs shared.turns → ⊥)
         → IsNewShared before end procs shared after → ⊥
     two_have_a_turn two new = two new.turns
 
@@ -79,127 +74,128 @@ module _ (before after : Unused) (end : ReadSide) (procs : ℕ) where
 
 -- ---- who shares it
 
-module _ (shared : Shared) (running : Running) (sharer : Sharer) where
-  -- the first has a turn of another pool, or at another end
-  first_of_another : (IsFirstHolder shared.turns running sharer.holder → ⊥)
-      → IsFirstSharer shared running sharer → ⊥
+module _ (shared : SharedEnd) (share : Share) where
+  -- the first has a seat at other turns, or is at another end
+  first_of_another : (IsFirst shared.turns share.seat → ⊥) → IsFirstShare shared share → ⊥
   first_of_another other first = other first.first
 
-  first_at_another_end : end_of sharer ≢ first_end shared → IsFirstSharer shared running sharer → ⊥
+  first_at_another_end : end_of share ≢ first_end shared → IsFirstShare shared share → ⊥
   first_at_another_end other first = other first.end_is
 
-module _ (before after : Unused) (old new child : Sharer) where
-  -- a call moves who makes it to another seat, or to another end
-  call_as_another : (IsSameHolder old.holder new.holder → ⊥) → IsSameSharer old new → ⊥
-  call_as_another other same = other same.holder_is
+module _ (old new child : Share) where
+  -- a call moves the share to another seat, or to another end
+  call_at_another_seat : (IsSameSeat old.seat new.seat → ⊥) → IsSameShare old new → ⊥
+  call_at_another_seat other same = other same.seat_is
 
-  call_at_another_end : end_of new ≢ end_of old → IsSameSharer old new → ⊥
+  call_at_another_end : end_of new ≢ end_of old → IsSameShare old new → ⊥
   call_at_another_end other same = other same.end_is
 
-  -- a child has no seat of its own, or is at another end
-  child_without_a_seat : (ForksHolder before old.holder new.holder child.holder after → ⊥)
-      → ForksSharer before old new child after → ⊥
-  child_without_a_seat none forked = none forked.forked
+  -- a further share has no seat of its own, or is at another end
+  share_without_a_seat : (IsFurther old.seat new.seat child.seat → ⊥)
+      → IsFurtherShare old new child → ⊥
+  share_without_a_seat none further = none further.further
 
-  child_at_another_end : end_of child ≢ end_of old → ForksSharer before old new child after → ⊥
-  child_at_another_end other forked = other forked.end_is
-
--- ---- notes
-
-module _ (pid : Pid) (set : NoteSet) (old new : Sharer) where
-  -- notes to nobody, or that are not pending, or a refusal that does something
-  notes_to_nobody : (pid.0 < procs_of old.holder.running.words → ⊥)
-      → PostsAsSharer pid set old (Ok tt) new → ⊥
-  notes_to_nobody nobody posts = nobody posts.0
-
-  notes_that_nobody_has :
-      new.holder.running.process ≢ notes old.holder.running.process pid set
-      → PostsAsSharer pid set old (Ok tt) new → ⊥
-  notes_that_nobody_has other posts = other posts.1
-
-  notes_as_another : (IsSameSharer old new → ⊥) → PostsAsSharer pid set old (Ok tt) new → ⊥
-  notes_as_another other posts = other posts.2
-
-  notes_with_units : new.holder.seat ≢ old.holder.seat → PostsAsSharer pid set old (Ok tt) new → ⊥
-  notes_with_units other posts = other posts.3
-
-  refused_for_want_of_memory : PostsAsSharer pid set old (Err fault.Memory) new → ⊥
-  refused_for_want_of_memory posts = let no : fault.Memory ≡ fault.NoProc = posts.0 in cc
-
-  refused_and_there_is_one : (procs_of old.holder.running.words ≤ pid.0 → ⊥)
-      → PostsAsSharer pid set old (Err fault.NoProc) new → ⊥
-  refused_and_there_is_one one posts = one posts.1
-
-  refused_and_did_something : new ≢ old → PostsAsSharer pid set old (Err fault.NoProc) new → ⊥
-  refused_and_did_something other posts = other posts.2
-
-  -- notes stay pending, or a look at them is made by another, or takes units
-  notes_that_stay : new.holder.running.process ≢ drains old.holder.running.process set
-      → TakesNotes old set new → ⊥
-  notes_that_stay other takes = other takes.took
-
-  look_as_another : (IsSameSharer old new → ⊥) → TakesNotes old set new → ⊥
-  look_as_another other takes = other takes.same
-
-  look_takes_units : new.holder.seat ≢ old.holder.seat → TakesNotes old set new → ⊥
-  look_takes_units other takes = other takes.seat_is
+  share_at_another_end : end_of child ≢ end_of old → IsFurtherShare old new child → ⊥
+  share_at_another_end other further = other further.end_is
 
 -- ---- a turn
 
-module _ (Asks : Holding → Holding → Type 0) (old new : Sharer) (before after : List ℕ) where
-  -- a call without a turn, or whose turn is not given back
-  call_without_a_turn : (Call : Reader → Reader → Type 0)
-      → ((begun : Holding) → Asks old.holder begun → ⊥) → HasTurn Asks old Call new → ⊥
-  call_without_a_turn Call none turn = none turn.begun turn.asks
+module _ (Asks : Turn → Turn → Type 0) (old new : Sharer) (before after : List ℕ) where
+  module _ (Call : Reader → Reader → Type 0) where
+    -- a call without a turn, or whose turn is not given back, or by a process that may not ask
+    call_without_a_turn : ((begun : Turn) → Asks (turn_of old) begun → ⊥)
+        → HasTurn Asks old Call new → ⊥
+    call_without_a_turn none turn = none turn.begun turn.asks
 
-  turn_is_kept : (Call : Reader → Reader → Type 0)
-      → ((ended : Holding) → GivesTurnBack ended new.holder → ⊥) → HasTurn Asks old Call new → ⊥
-  turn_is_kept Call kept turn = kept turn.ended turn.gives_back
+    turn_is_kept : ((ended : Turn) → GivesTurnBack ended (turn_of new) → ⊥)
+        → HasTurn Asks old Call new → ⊥
+    turn_is_kept kept turn =
+        kept (record { seat = turn.begun.seat; proc = turn.called }) turn.gives_back
 
-  -- no turn was got, and yet the buffer was filled, or it was not asked for
+    call_without_rendez : ¬ KnowsTurns (turn_of old) → HasTurn Asks old Call new → ⊥
+    call_without_rendez few turn = few turn.knows
+
+  -- no turn was got, and yet the buffer was filled, or it was not asked for, or a process asked
+  -- that may not
   filled_without_a_turn : after ≢ before → HasNoTurn Asks old (buffers before after) new → ⊥
   filled_without_a_turn other none = other none.buffer_same
 
-  nothing_was_asked : (Asks old.holder new.holder → ⊥)
+  nothing_was_asked : (Asks (turn_of old) (turn_of new) → ⊥)
       → HasNoTurn Asks old (buffers before after) new → ⊥
   nothing_was_asked not none = not none.asks
 
+  asked_without_rendez : ¬ KnowsTurns (turn_of old)
+      → HasNoTurn Asks old (buffers before after) new → ⊥
+  asked_without_rendez few none = few none.knows
+
 module _ (old new : Sharer) (buffer : Buffers) where
+  -- a process that may ask is refused a turn for want of Rendez, or for another fault; or one that
+  -- may not has done something
+  refused_with_rendez : (why : Fault) → KnowsTurns (turn_of old)
+      → ¬ MayNotAsk old buffer why new
+  refused_with_rendez why may refused = refused.unknown may
+
+  unknown_as_another_fault : ¬ MayNotAsk old buffer fault.Worn new
+  unknown_as_another_fault refused = let no = refused.why_is in cc
+
+  unknown_and_did_something : (why : Fault) → new ≢ old → ¬ MayNotAsk old buffer why new
+  unknown_and_did_something why other refused = other refused.same
+
+  unknown_and_filled : (why : Fault) → buffer.after ≢ buffer.before
+      → ¬ MayNotAsk old buffer why new
+  unknown_and_filled why other refused = other refused.buffer_same
+
   -- bytes came and no turn was got
-  bytes_without_a_turn : ((begun : Holding) → AsksForTurn (Ok tt) old.holder begun → ⊥)
+  bytes_without_a_turn : ((begun : Turn) → AsksForTurn (Ok tt) (turn_of old) begun → ⊥)
       → InTurn ReadsOnce old buffer (Ok (read.Got 3)) new → ⊥
   bytes_without_a_turn none turn = none turn.begun turn.asks
 
-  bytes_without_a_turn_now : ((begun : Holding) → AsksNow true old.holder begun → ⊥)
+  bytes_without_a_turn_now : ((begun : Turn) → AsksNow true (turn_of old) begun → ⊥)
       → TriesInTurn old buffer (Ok (try.Got 3)) new → ⊥
   bytes_without_a_turn_now none turn = none turn.begun turn.asks
 
+  -- bytes came to a process that may not ask
+  bytes_without_rendez : ¬ KnowsTurns (turn_of old)
+      → InTurn ReadsBlockOnce old buffer (Ok (read.Got 3)) new → ⊥
+  bytes_without_rendez few turn = few turn.knows
+
   -- it is not yet there, and no turn was asked for
-  not_yet_without_asking : (AsksNow false old.holder new.holder → ⊥)
-      → ((begun : Holding) → AsksNow true old.holder begun → ⊥)
+  not_yet_without_asking : (AsksNow false (turn_of old) (turn_of new) → ⊥)
+      → ((begun : Turn) → AsksNow true (turn_of old) begun → ⊥)
       → TriesInTurn old buffer (Ok try.NotYet) new → ⊥
   not_yet_without_asking not none (inl refused) = not refused.asks
   not_yet_without_asking not none (inr turn) = none turn.begun turn.asks
 
   -- no turn was got, and its fault is another
-  refused_for_another_fault : ((why : Fault) → AsksForTurn (Err why) old.holder new.holder → ⊥)
-      → ((begun : Holding) → AsksForTurn (Ok tt) old.holder begun → ⊥)
+  refused_for_another_fault :
+      ((why : Fault) → AsksForTurn (Err why) (turn_of old) (turn_of new) → ⊥)
+      → ((begun : Turn) → AsksForTurn (Ok tt) (turn_of old) begun → ⊥)
       → InTurn ReadsOnce old buffer (Err fault.Worn) new → ⊥
-  refused_for_another_fault not none (inl refused) = not fault.Worn refused.asks
-  refused_for_another_fault not none (inr turn) = none turn.begun turn.asks
+  refused_for_another_fault not none (inl unknown) = let no = unknown.why_is in cc
+  refused_for_another_fault not none (inr (inl refused)) = not fault.Worn refused.asks
+  refused_for_another_fault not none (inr (inr turn)) = none turn.begun turn.asks
 
-module _ (old new : Holding) where
+  -- a try is refused for want of a turn, where it is NotYet
+  try_refused_without_a_turn : KnowsTurns (turn_of old)
+      → ((begun : Turn) → AsksNow true (turn_of old) begun → ⊥)
+      → TriesInTurn old buffer (Err fault.Worn) new → ⊥
+  try_refused_without_a_turn may none (inl unknown) = unknown.unknown may
+  try_refused_without_a_turn may none (inr turn) = none turn.begun turn.asks
+
+module _ (old new : Turn) where
   -- a unit is not given back, or one is asked for and waited for
   no_unit_is_given_back : ((answer : Result ℕ Fault)
-      → Releases old.sema 1 (holder_point old) answer (holder_point new) → ⊥)
+      → Releases old.seat.sema 1 (point old.seat.seat old.proc) answer
+      (point new.seat.seat new.proc) → ⊥)
       → GivesTurnBack old new → ⊥
   no_unit_is_given_back none gives = none gives.answer gives.called
 
-  who_asks_now_waits : (has : Bool) → (Semacquires false old.sema (holder_point old) (got_now has)
-      (holder_point new) → ⊥) → AsksNow has old new → ⊥
+  who_asks_now_waits : (has : Bool) → (Semacquires false old.seat.sema
+      (point old.seat.seat old.proc) (got_now has) (point new.seat.seat new.proc) → ⊥)
+      → AsksNow has old new → ⊥
   who_asks_now_waits has waits asks = waits asks
 
-module _ (end : ReadSide) (old new : Holding) (Call : Reader → Reader → Type 0) where
+module _ (end : ReadSide) (old new : Running) (Call : Reader → Reader → Type 0) where
   -- an end of another pipe lay there, or lies there then
   end_of_another_pipe_lay_there : ((lay : ReadSide) → lay.queue ≢ end.queue)
       → CallsShared end old Call new → ⊥
@@ -210,25 +206,21 @@ module _ (end : ReadSide) (old new : Holding) (Call : Reader → Reader → Type
   end_of_another_pipe_lies_there other calls = other calls.lies calls.lies_is.row
 
   -- a call of that end was not made
-  no_call_was_made : ((lay lies : ReadSide)
-      → Call (reader lay old.running) (reader lies new.running) → ⊥)
+  no_call_was_made : ((lay lies : ReadSide) → Call (reader lay old) (reader lies new) → ⊥)
       → CallsShared end old Call new → ⊥
   no_call_was_made none calls = none calls.lay calls.lies calls.called
 
-  -- it moves to another seat, or takes units with it
-  call_moves_to_another_seat : (IsSameHolder old new → ⊥) → CallsShared end old Call new → ⊥
-  call_moves_to_another_seat other calls = other calls.same
-
-  call_takes_units : new.seat ≢ old.seat → CallsShared end old Call new → ⊥
-  call_takes_units other calls = other calls.seat_is
+  -- the process moves to another kernel
+  call_moves_to_another_kernel : new.words ≢ old.words → CallsShared end old Call new → ⊥
+  call_moves_to_another_kernel other calls = other calls.words_are
 
 -- another end was laid down than the one that lies there then
-what_lies_was_laid_down : (end : ReadSide) (old new : Holding) (Call : Reader → Reader → Type 0)
+what_lies_was_laid_down : (end : ReadSide) (old new : Running) (Call : Reader → Reader → Type 0)
     (laid : Receipt) → (calls : CallsAndLays end old Call laid new)
     → IsLaid calls.calls.lies laid
 what_lies_was_laid_down end old new Call laid calls = calls.laid_is
 
-no_call_and_an_end_laid_down : (end : ReadSide) (old new : Holding)
+no_call_and_an_end_laid_down : (end : ReadSide) (old new : Running)
     (Call : Reader → Reader → Type 0) (laid : Receipt) → ¬ CallsShared end old Call new
     → ¬ CallsAndLays end old Call laid new
 no_call_and_an_end_laid_down end old new Call laid none calls = none calls.calls
@@ -245,12 +237,12 @@ module _ (first : ReadSide) (swapped : Swapped) where
   nothing_is_put_there lying none swaps = let put = swaps.put_is in cc
 
   an_end_of_another_pipe_lay_there : (found : Lying) → swapped.found ≡ Some found
-      → ¬ IsSameReadEnd first found.end → ¬ Swaps first None swapped
+      → ¬ IsSameReadEnd first found.end.value → ¬ Swaps first None swapped
   an_end_of_another_pipe_lay_there found is other swaps =
-      other (subst (λ lay. IfSome lay (λ it. IsSameReadEnd first it.end)) is swaps.found_is)
+      other (subst (λ lay. IfSome lay (λ it. IsSameReadEnd first it.end.value)) is swaps.found_is)
 
 -- an end that lies there is given, and none is where none does
-an_end_that_lies_there : (lying : Lying) → end_in (Some lying) ≡ Some lying.end
+an_end_that_lies_there : (lying : Lying) → end_in (Some lying) ≡ Some lying.end.value
 an_end_that_lies_there lying = refl
 
 no_end_that_lies_there : end_in None ≡ None

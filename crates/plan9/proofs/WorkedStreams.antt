@@ -6,7 +6,7 @@ use Rattle.std.specs.IoError.{error_kind}
 use Rattle.sync_base.specs.declared.fault.Fault.{Fault}
 use Rattle.sync_base.specs.declared.fault.Fault.TheVariants as fault
 use Rattle.pipe_dev.specs.Rendezes.{OwnsRow}
-use Rattle.plan9.specs.declared.pipes.Writer.{Writer}
+use Rattle.plan9.specs.Callers.{Writer}
 use Rattle.plan9.specs.Streams.{Lent, Streams, StreamsOut, Takes, TakesNext, IsErrorFor}
 use Rattle.plan9.specs.Streams.{WritesFront, WritesOnce, front_of, kind_of}
 

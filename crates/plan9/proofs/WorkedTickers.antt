@@ -76,7 +76,7 @@ module _ (shown : Bor ℕ) where
 
 module _ {TickSource : Type 0} (tells : TickSource → ℕ → TickSource → Type 0)
     (old new : Timed TickSource) where
-  notes_end_it_before_a_tick : ((looked : Running) → ¬ Looks old.ticker.proc no_notes looked)
+  notes_end_it_before_a_tick : ((looked : Running) → ¬ Looks old.proc no_notes looked)
       → ¬ TicksOnce tells old new
   notes_end_it_before_a_tick pending ticks = pending ticks.looked ticks.none
 
@@ -84,27 +84,27 @@ module _ {TickSource : Type 0} (tells : TickSource → ℕ → TickSource → Ty
       → ¬ TicksOnce tells old new
   a_tick_at_no_moment_of_its_time none ticks = none ticks.now ticks.told
 
-  a_tick_with_another_watch : ¬ IsSameWatch old.ticker.watch new.ticker.watch
+  a_tick_with_another_watch : ¬ IsSameWatch old.watch new.watch
       → ¬ TicksOnce tells old new
   a_tick_with_another_watch other ticks = other ticks.same
 
   a_tick_is_at_its_kernel : (ticks : TicksOnce tells old new)
-      → new.ticker.proc.words ≡ ticks.looked.words
+      → new.proc.words ≡ ticks.looked.words
   a_tick_is_at_its_kernel ticks = ticks.words_are
 
   a_tick_is_one_of_its_timers : (ticks : TicksOnce tells old new)
-      → Ticks old.ticker.watch.timers (procs_of ticks.looked.words) ticks.now ticks.expired
-      (point old.ticker.watch.seat ticks.looked) (point new.ticker.watch.seat new.ticker.proc)
+      → Ticks old.watch.timers (procs_of ticks.looked.words) ticks.now ticks.expired
+      (point old.watch.seat ticks.looked) (point new.watch.seat new.proc)
   a_tick_is_one_of_its_timers ticks = ticks.called
 
 module _ {TickSource : Type 0} (old new : Timed TickSource) (came : NoteSet) where
   no_notes_end_it_not : ¬ EndsTicking old no_notes new
   no_notes_end_it_not ends = ends.some refl
 
-  a_tick_after_its_notes : new.ticker.watch ≢ old.ticker.watch → ¬ EndsTicking old came new
+  a_tick_after_its_notes : new.watch ≢ old.watch → ¬ EndsTicking old came new
   a_tick_after_its_notes other ends = other ends.watch_is
 
-  an_end_without_a_look : ¬ Looks old.ticker.proc came new.ticker.proc
+  an_end_without_a_look : ¬ Looks old.proc came new.proc
       → ¬ EndsTicking old came new
   an_end_without_a_look other ends = other ends.looked
 

@@ -12,10 +12,9 @@ use Rattle.sync_base.specs.NoteSet.{holds, is_same_note, no_notes}
 use Rattle.rendez_words.specs.Process.{Process, pid_in}
 use Rattle.rendez_words.specs.Steps.{drains, notes}
 use Rattle.sleep_wakeup.specs.Kernel.{Running}
-use Rattle.pipe_dev.specs.Ends.{WriteSide}
 use Rattle.pipe_dev.specs.Rendezes.{OwnsRow}
-use Rattle.plan9.specs.declared.pipes.Writer.{Writer}
-use Rattle.plan9.specs.Streams.{IsSameWriter, WritesOnce}
+use Rattle.plan9.specs.Callers.{Writer, IsSameWriter}
+use Rattle.plan9.specs.Streams.{WritesOnce}
 
 -- these notes are those that came, without the note of this kind
 abbrev pub AreOthers : Note → NoteSet → NoteSet → Type 0
@@ -64,7 +63,3 @@ pub record WritesUnnoted (old : Writer) (bytes : List ℕ) (answer : Result ℕ 
       → (IsErrOf answer fault.NoRendez ↔ ¬ OwnsRow old.proc.words old.end.row)
   pub wrote : LeavesNoNote old bytes answer new
   pub same : IsSameWriter old new
-
--- a writer that has this end
-abbrev pub writer : WriteSide → Running → Writer
-writer end proc = record { end = end; proc = proc }

@@ -6,17 +6,11 @@ use Rattle.sync_base.specs.declared.fault.Fault.TheVariants.{BadCount, NoRendez}
 use Rattle.block_queue.specs.Seats.{key_of}
 use Rattle.pipe_dev.specs.declared.answers.ReadAnswer.{ReadAnswer}
 use Rattle.pipe_dev.specs.declared.answers.ReadAnswer.TheVariants as read
-use Rattle.pipe_dev.specs.Ends.{IsSameReadEnd}
 use Rattle.pipe_dev.specs.ReadCalls.{Reads, calling}
 use Rattle.pipe_dev.specs.Rendezes.{OwnsRow}
 use Rattle.pipe_dev.specs.Rounds.{Rounds}
-use Rattle.plan9.specs.declared.pipes.Reader.{Reader}
-use Rattle.plan9.specs.declared.reading.ShortRead.{ShortRead}
-
--- the same end, and the same kernel
-pub record IsSameReader (old new : Reader) : Type 0 where
-  pub end_is : IsSameReadEnd old.end new.end
-  pub words_are : new.proc.words ≡ old.proc.words
+use Rattle.plan9.specs.declared.ends.ShortRead.{ShortRead}
+use Rattle.plan9.specs.Callers.{Reader, IsSameReader}
 
 -- a read of this end by this process, by its answer
 abbrev pub ReadsBy : Reader → List ℕ → Result ReadAnswer Fault → Reader → List ℕ → Type 0

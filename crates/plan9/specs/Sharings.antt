@@ -1,19 +1,17 @@
 -- What clauses see of a read end that several processes share, each of which reads in its turn.
 -- Own: the turn is the unit of a semaphore, where Plan 9's pipes have a lock (qlock in lock(2)), so
 -- that a note ends the wait for it.
-use Rattle.std.specs.Prelude.{◌≡◌, ◌≢◌, ◌↔◌, ◌⊎◌, ◌<◌, ◌≤◌, ⊤, ℕ, Bool, true, false, List, []}
+use Rattle.std.specs.Prelude.{◌≡◌, ◌≢◌, ◌↔◌, ◌⊎◌, ⊤, ℕ, Bool, true, false, List, []}
 use Rattle.std.specs.Prelude.{Result, Ok, Err, IsErrOf, IfErr}
 use Rattle.sync_base.specs.declared.fault.Fault.{Fault}
-use Rattle.sync_base.specs.declared.fault.Fault.TheVariants.{BadCount, NoProc, NoRendez}
-use Rattle.sync_base.specs.declared.note.NoteSet.{NoteSet}
-use Rattle.sync_base.specs.declared.ids.Pid.{Pid}
-use Rattle.rendez_words.specs.Steps.{notes, drains}
-use Rattle.rendez_words.specs.Words.{procs_of}
+use Rattle.sync_base.specs.declared.fault.Fault.TheVariants.{BadCount, NoRendez}
+use Rattle.sleep_core.specs.Limits.{IsProcCount}
 use Rattle.sleep_wakeup.specs.Kernel.{Running, Unused, HasRendez, rendez_less}
 use Rattle.semaphore.specs.Acquiring.{Semacquires}
 use Rattle.semaphore.specs.Opening.{WhyNotOpened}
-use Rattle.sleep_core.specs.Limits.{IsProcCount}
 use Rattle.semaphore.specs.Releasing.{Releases}
+use Rattle.semaphore.specs.Seats as sema
+use Rattle.waiting.specs.Waiting.{point}
 use Rattle.block_queue.specs.Seats.{key_of}
 use Rattle.pipe_dev.specs.declared.answers.ReadAnswer.{ReadAnswer}
 use Rattle.pipe_dev.specs.declared.answers.TryAnswer.{TryAnswer}
@@ -22,32 +20,31 @@ use Rattle.pipe_dev.specs.BlockReads.{ReadsBlock}
 use Rattle.pipe_dev.specs.Ends.{ReadSide, IsSameReadEnd}
 use Rattle.pipe_dev.specs.ReadCalls.{Tries, calling}
 use Rattle.pipe_dev.specs.Rendezes.{OwnsRow}
-use Rattle.plan9.specs.declared.pipes.Reader.{Reader}
-use Rattle.plan9.specs.declared.sharing.Shared.{Shared}
-use Rattle.plan9.specs.declared.sharing.Sharer.{Sharer}
-use Rattle.plan9.specs.declared.sharing.Unshared.{Unshared}
+use Rattle.plan9.specs.declared.shares.Share.{Share}
+use Rattle.plan9.specs.declared.shares.SharedEnd.{SharedEnd}
+use Rattle.plan9.specs.declared.shares.Unshared.{Unshared}
 use Rattle.plan9.specs.declared.place.Receipt.{Receipt}
+use Rattle.plan9.specs.Callers.{Reader, reader}
 use Rattle.plan9.specs.Places.{IsLaid}
-use Rattle.plan9.specs.Pools.{Holding, IsNewPool, IsFirstHolder, IsSameHolder}
-use Rattle.plan9.specs.Pools.{ForksHolder, got, got_now, holder_point}
 use Rattle.plan9.specs.Readings.{ReadsBy}
+use Rattle.plan9.specs.Semaphores.{Seated, IsFirst, IsFurther, IsNew, IsSameSeat, got, got_now}
 
 -- the end that is shared, as it was at first
-abbrev pub first_end : Shared → ReadSide
+abbrev pub first_end : SharedEnd → ReadSide
 first_end shared = shared.place.slot.value
 
--- and the end of a process that shares it
-abbrev pub end_of : Sharer → ReadSide
-end_of sharer = sharer.place.now.slot.value
+-- and the end of a share
+abbrev pub end_of : Share → ReadSide
+end_of share = share.place.now.slot.value
 
 -- ---- who shares
 
--- a new pool of one unit, whose holder has the turn, and this end; this many Rendez are used up
-pub record IsNewShared (before : Unused) (end : ReadSide) (procs : ℕ) (shared : Shared)
+-- a new semaphore of one unit, which is the turn, and this end; this many Rendez are used up
+pub record IsNewShared (before : Unused) (end : ReadSide) (procs : ℕ) (shared : SharedEnd)
     (after : Unused) : Type 0 where
   pub in_range : IsProcCount procs
   pub room : HasRendez before procs
-  pub turns : IsNewPool before 1 procs shared.turns
+  pub turns : IsNew before 1 procs shared.turns
   pub end_is : first_end shared ≡ end
   pub roster : after ≡ rendez_less procs before
 
@@ -58,52 +55,64 @@ pub record IsNotShared (before : Unused) (end : ReadSide) (procs : ℕ) (refused
   pub end_is : refused.end ≡ end
   pub roster : after ≡ before
 
--- the process is the first with turns at the end
-pub record IsFirstSharer (shared : Shared) (running : Running) (sharer : Sharer) : Type 0 where
-  pub first : IsFirstHolder shared.turns running sharer.holder
-  pub end_is : end_of sharer ≡ first_end shared
+-- the share that nobody had
+pub record IsFirstShare (shared : SharedEnd) (share : Share) : Type 0 where
+  pub first : IsFirst shared.turns share.seat
+  pub end_is : end_of share ≡ first_end shared
 
--- the same process has turns at the same end
-pub record IsSameSharer (old new : Sharer) : Type 0 where
-  pub holder_is : IsSameHolder old.holder new.holder
+-- the same share of the same end
+pub record IsSameShare (old new : Share) : Type 0 where
+  pub seat_is : IsSameSeat old.seat new.seat
   pub end_is : end_of new ≡ end_of old
 
--- the next process of a roster has turns at the same end
-pub record ForksSharer (before : Unused) (old new child : Sharer) (after : Unused) : Type 0 where
-  pub forked : ForksHolder before old.holder new.holder child.holder after
+-- a share of the same end that was given to no other
+pub record IsFurtherShare (old new child : Share) : Type 0 where
+  pub further : IsFurther old.seat new.seat child.seat
   pub end_is : end_of child ≡ end_of old
-
--- it posted these notes to this process, or there is no such process and it did nothing
-abbrev pub PostsAsSharer : Pid → NoteSet → Sharer → Result ⊤ Fault → Sharer → Type 0
-PostsAsSharer pid set old (Ok unit) new =
-    (pid.0 < procs_of old.holder.running.words)
-    × (new.holder.running.process ≡ notes old.holder.running.process pid set)
-    × IsSameSharer old new × (new.holder.seat ≡ old.holder.seat)
-PostsAsSharer pid set old (Err why) new =
-    (why ≡ NoProc) × (procs_of old.holder.running.words ≤ pid.0) × (new ≡ old)
-
--- it took these notes, and did nothing else
-pub record TakesNotes (old : Sharer) (came : NoteSet) (new : Sharer) : Type 0 where
-  pub took : new.holder.running.process ≡ drains old.holder.running.process came
-  pub same : IsSameSharer old new
-  pub seat_is : new.holder.seat ≡ old.holder.seat
 
 -- ---- a turn
 
+-- a seat at the turns, and the process that calls by it
+pub record Turn : Type 0 where
+  pub seat : Seated
+  pub proc : Running
+
+abbrev pub turn : Seated → Running → Turn
+turn seat proc = record { seat = seat; proc = proc }
+
+-- a share, and the process that reads by it
+pub record Sharer : Type 0 where
+  pub share : Share
+  pub proc : Running
+
+abbrev pub sharer : Share → Running → Sharer
+sharer share proc = record { share = share; proc = proc }
+
+-- its seat at the turns
+abbrev pub turn_of : Sharer → Turn
+turn_of sharer = turn sharer.share.seat sharer.proc
+
+-- the process may ask for a turn: its kernel has the Rendez of the turns
+abbrev pub KnowsTurns : Turn → Type 0
+KnowsTurns turn = sema.OwnsRow turn.seat.sema turn.proc.words
+
 -- it asked for a turn, and waited for it where another process had it
-abbrev pub AsksForTurn : Result ⊤ Fault → Holding → Holding → Type 0
+abbrev pub AsksForTurn : Result ⊤ Fault → Turn → Turn → Type 0
 AsksForTurn answer old new =
-    Semacquires true old.sema (holder_point old) (got answer) (holder_point new)
+    Semacquires true old.seat.sema (point old.seat.seat old.proc) (got answer)
+    (point new.seat.seat new.proc)
 
 -- it asked for a turn, and did not wait for it
-abbrev pub AsksNow : Bool → Holding → Holding → Type 0
+abbrev pub AsksNow : Bool → Turn → Turn → Type 0
 AsksNow has old new =
-    Semacquires false old.sema (holder_point old) (got_now has) (holder_point new)
+    Semacquires false old.seat.sema (point old.seat.seat old.proc) (got_now has)
+    (point new.seat.seat new.proc)
 
 -- it gave the turn back, once, and woke the process that got it
-pub record GivesTurnBack (old new : Holding) : Type 0 where
+pub record GivesTurnBack (old new : Turn) : Type 0 where
   pub answer : Result ℕ Fault
-  pub called : Releases old.sema 1 (holder_point old) answer (holder_point new)
+  pub called : Releases old.seat.sema 1 (point old.seat.seat old.proc) answer
+      (point new.seat.seat new.proc)
 
 -- a buffer, before and after a call
 pub record Buffers : Type 0 where
@@ -113,24 +122,19 @@ pub record Buffers : Type 0 where
 abbrev pub buffers : List ℕ → List ℕ → Buffers
 buffers before after = record { before = before; after = after }
 
--- a reader that has this end
-abbrev pub reader : ReadSide → Running → Reader
-reader end proc = record { end = end; proc = proc }
-
 -- one call of an end of this direction, as the end was before the call and after it
-pub record CallsShared (end : ReadSide) (old : Holding) (Call : Reader → Reader → Type 0)
-    (new : Holding) : Type 0 where
+pub record CallsShared (end : ReadSide) (old : Running) (Call : Reader → Reader → Type 0)
+    (new : Running) : Type 0 where
   pub lay : ReadSide
   pub lies : ReadSide
   pub lay_is : IsSameReadEnd end lay
   pub lies_is : IsSameReadEnd end lies
-  pub called : Call (reader lay old.running) (reader lies new.running)
-  pub same : IsSameHolder old new
-  pub seat_is : new.seat ≡ old.seat
+  pub called : Call (reader lay old) (reader lies new)
+  pub words_are : new.words ≡ old.words
 
 -- and the end as it was after the call was laid down
-pub record CallsAndLays (end : ReadSide) (old : Holding) (Call : Reader → Reader → Type 0)
-    (laid : Receipt) (new : Holding) : Type 0 where
+pub record CallsAndLays (end : ReadSide) (old : Running) (Call : Reader → Reader → Type 0)
+    (laid : Receipt) (new : Running) : Type 0 where
   pub calls : CallsShared end old Call new
   pub laid_is : IsLaid calls.lies laid
 
@@ -169,28 +173,39 @@ pub record TriesOnce (buffer : Buffers) (answer : Result TryAnswer Fault) (old n
   pub tries : TriesBy old buffer.before answer new buffer.after
 
 -- it asked and got its turn, made this call, and gave the turn back
-pub record HasTurn (Asks : Holding → Holding → Type 0) (old : Sharer)
+pub record HasTurn (Asks : Turn → Turn → Type 0) (old : Sharer)
     (Call : Reader → Reader → Type 0) (new : Sharer) : Type 0 where
-  pub begun : Holding
-  pub ended : Holding
-  pub asks : Asks old.holder begun
-  pub calls : CallsShared (end_of old) begun Call ended
-  pub gives_back : GivesTurnBack ended new.holder
+  pub knows : KnowsTurns (turn_of old)
+  pub begun : Turn
+  pub called : Running
+  pub asks : Asks (turn_of old) begun
+  pub calls : CallsShared (end_of old.share) begun.proc Call called
+  pub gives_back : GivesTurnBack (turn begun.seat called) (turn_of new)
 
 -- it asked and got no turn, and did nothing else
-pub record HasNoTurn (Asks : Holding → Holding → Type 0) (old : Sharer) (buffer : Buffers)
+pub record HasNoTurn (Asks : Turn → Turn → Type 0) (old : Sharer) (buffer : Buffers)
     (new : Sharer) : Type 0 where
-  pub asks : Asks old.holder new.holder
+  pub knows : KnowsTurns (turn_of old)
+  pub asks : Asks (turn_of old) (turn_of new)
   pub buffer_same : buffer.after ≡ buffer.before
 
--- what a call in turn did, by its answer: a refused call got no turn, or called and was refused
+-- it may not ask for a turn: it was refused for that, and nothing was done
+pub record MayNotAsk (old : Sharer) (buffer : Buffers) (why : Fault) (new : Sharer) : Type 0 where
+  pub unknown : ¬ KnowsTurns (turn_of old)
+  pub why_is : why ≡ NoRendez
+  pub same : new ≡ old
+  pub buffer_same : buffer.after ≡ buffer.before
+
+-- what a call in turn did, by its answer: a refused call may not ask, or got no turn, or called and
+-- was refused
 abbrev pub InTurn : (Buffers → Result ReadAnswer Fault → Reader → Reader → Type 0)
     → Sharer → Buffers → Result ReadAnswer Fault → Sharer → Type 0
 InTurn Call old buffer (Ok answer) new =
     HasTurn (AsksForTurn (Ok tt)) old (Call buffer (Ok answer)) new
 InTurn Call old buffer (Err why) new =
-    HasNoTurn (AsksForTurn (Err why)) old buffer new
-    ⊎ HasTurn (AsksForTurn (Ok tt)) old (Call buffer (Err why)) new
+    MayNotAsk old buffer why new
+    ⊎ (HasNoTurn (AsksForTurn (Err why)) old buffer new
+    ⊎ HasTurn (AsksForTurn (Ok tt)) old (Call buffer (Err why)) new)
 
 -- what a call did that does not wait for its turn: NotYet is also the answer where another process
 -- has the turn
@@ -198,4 +213,7 @@ abbrev pub TriesInTurn : Sharer → Buffers → Result TryAnswer Fault → Share
 TriesInTurn old buffer (Ok try.NotYet) new =
     HasNoTurn (AsksNow false) old buffer new
     ⊎ HasTurn (AsksNow true) old (TriesOnce buffer (Ok try.NotYet)) new
-TriesInTurn old buffer answer new = HasTurn (AsksNow true) old (TriesOnce buffer answer) new
+TriesInTurn old buffer (Ok answer) new =
+    HasTurn (AsksNow true) old (TriesOnce buffer (Ok answer)) new
+TriesInTurn old buffer (Err why) new =
+    MayNotAsk old buffer why new ⊎ HasTurn (AsksNow true) old (TriesOnce buffer (Err why)) new

@@ -8,12 +8,12 @@ use Rattle.std.specs.declared.io.ErrorKind.TheVariants as kind
 use Rattle.sync_base.specs.declared.fault.Fault.{Fault}
 use Rattle.sync_base.specs.declared.fault.Fault.TheVariants as fault
 use Rattle.sync_base.specs.declared.limits.TheConstants.{ATOMIC_SIZE}
-use Rattle.pipe_dev.specs.Ends.{IsSameWriteEnd}
+use Rattle.pipe_dev.specs.Ends.{ReadSide}
+use Rattle.sleep_wakeup.specs.Kernel.{Running}
 use Rattle.pipe_dev.specs.Rendezes.{OwnsRow}
 use Rattle.pipe_dev.specs.Rounds.{Rounds}
 use Rattle.pipe_dev.specs.WriteCalls.{Writes, call_of, writer_of}
-use Rattle.plan9.specs.declared.pipes.Reader.{Reader}
-use Rattle.plan9.specs.declared.pipes.Writer.{Writer}
+use Rattle.plan9.specs.Callers.{Reader, Writer, IsSameWriter, reader}
 use Rattle.plan9.specs.Readings.{ReadsPiece}
 
 -- the kind of error that a fault is; notes are no kind that std's calls pass over
@@ -35,8 +35,8 @@ pub record Lent : Type 0 where
   pub reader : Reader
   pub buffer : List ℕ
 
-abbrev pub lent : Reader → List ℕ → Lent
-lent reader buffer = record { reader = reader; buffer = buffer }
+abbrev pub lent : ReadSide → Running → List ℕ → Lent
+lent end proc buffer = record { reader = reader end proc; buffer = buffer }
 
 -- one piece, or the end, or a fault
 abbrev pub Takes : Lent → Result (Option ℕ) Fault → Lent → Type 0
@@ -109,11 +109,6 @@ EndsWriting old bytes (Ok count) kept new =
     (count ≡ length (front_of bytes)) × ((number : ℕ) × WritesFront old bytes (Ok number) new)
 EndsWriting old bytes (Err error) kept new =
     (why : Fault) × WritesFront old bytes (Err why) new × IsErrorFor why kept error
-
--- it is of the same end, and of the same kernel
-pub record IsSameWriter (old new : Writer) : Type 0 where
-  pub end_is : IsSameWriteEnd old.end new.end
-  pub words_are : new.proc.words ≡ old.proc.words
 
 -- what a write of the stream did
 abbrev pub StreamsOut :

@@ -1,4 +1,4 @@
--- What a ticker does. Own.
+-- What a process does that ticks a clock. Own.
 use Rattle.std.specs.Prelude.{◌≡◌, ◌≢◌, ◌<◌, ◌+◌, ◌^◌, ℕ, Option, Some, None}
 use Rattle.std.specs.Borrow.{Bor}
 use Rattle.sync_base.specs.declared.note.NoteSet.{NoteSet}
@@ -11,8 +11,7 @@ use Rattle.waiting.specs.Waiting.{point}
 use Rattle.pipe_dev.specs.Rounds.{Rounds}
 use Rattle.plan9.specs.declared.ticker.Beat.{Beat}
 use Rattle.plan9.specs.declared.ticker.RealTime.{RealTime}
-use Rattle.plan9.specs.declared.ticker.Ticker.{Ticker}
-use Rattle.plan9.specs.Watches.{IsSameWatch}
+use Rattle.plan9.specs.Watches.{IsSameWatch, Watching}
 
 -- it took the notes that were pending, and is otherwise as it was
 pub record Looks (old : Running) (came : NoteSet) (new : Running) : Type 0 where
@@ -38,35 +37,36 @@ pub record IsBeatOf {Clock : Type 0} (time : RealTime) (beat : Beat Clock) : Typ
   pub from_zero : beat.now ≡ 0
   pub shown : IsShownAt time.told beat.shown
 
--- a ticker, and the time that it asks for its moments
+-- a watch, the process that ticks by it, and the time that it asks for its moments
 pub record Timed (TickSource : Type 0) : Type 0 where
-  pub ticker : Ticker
+  pub watch : Watching
+  pub proc : Running
   pub time : TickSource
 
-abbrev pub timed : {TickSource : Type 0} → Ticker → TickSource → Timed TickSource
-timed ticker time = record { ticker = ticker; time = time }
+abbrev pub timed : {TickSource : Type 0} → Watching → Running → TickSource → Timed TickSource
+timed watch proc time = record { watch = watch; proc = proc; time = time }
 
 -- these notes were pending, and it did nothing but take them
 pub record EndsTicking {TickSource : Type 0} (old : Timed TickSource) (came : NoteSet)
     (new : Timed TickSource) :
     Type 0 where
   pub some : came ≢ no_notes
-  pub watch_is : new.ticker.watch ≡ old.ticker.watch
-  pub looked : Looks old.ticker.proc came new.ticker.proc
+  pub watch_is : new.watch ≡ old.watch
+  pub looked : Looks old.proc came new.proc
   pub time_is : new.time ≡ old.time
 
 module _ {TickSource : Type 0} (tells : TickSource → ℕ → TickSource → Type 0) where
   -- no note was pending, and then it asked the time once, and ticked once at the moment that came
   pub record TicksOnce (old new : Timed TickSource) : Type 0 where
     pub looked : Running
-    pub none : Looks old.ticker.proc no_notes looked
+    pub none : Looks old.proc no_notes looked
     pub now : ℕ
     pub told : tells old.time now new.time
     pub expired : ℕ
-    pub same : IsSameWatch old.ticker.watch new.ticker.watch
-    pub words_are : new.ticker.proc.words ≡ looked.words
-    pub called : Ticks old.ticker.watch.timers (procs_of looked.words) now expired
-        (point old.ticker.watch.seat looked) (point new.ticker.watch.seat new.ticker.proc)
+    pub same : IsSameWatch old.watch new.watch
+    pub words_are : new.proc.words ≡ looked.words
+    pub called : Ticks old.watch.timers (procs_of looked.words) now expired
+        (point old.watch.seat looked) (point new.watch.seat new.proc)
 
   -- some ticks, and then notes
   pub record TicksOn (old : Timed TickSource) (came : NoteSet)

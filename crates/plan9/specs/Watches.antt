@@ -1,26 +1,15 @@
 -- What clauses see of a clock, and of a seat at its timers.
-use Rattle.std.specs.Prelude.{◌≡◌, ⊤, ℕ, List, Option, Some, None}
+use Rattle.std.specs.Prelude.{◌≡◌, ◌⊎◌, ◌≤◌, ◌<◌, ⊤, ℕ, List, Option, Some, None}
 use Rattle.sync_base.specs.declared.fault.Fault.{Fault}
 use Rattle.sync_base.specs.declared.fault.Fault.TheVariants as fault
-use Rattle.histories.specs.declared.account.Account.{Account}
 use Rattle.kernel_lock.specs.Seats.{number_of, Splits, KnowsAllGiven}
 use Rattle.sleep_wakeup.specs.Kernel.{Running}
 use Rattle.timer_list.specs.declared.timers.Timers.{Timers}
 use Rattle.timer_list.specs.declared.timers.TimerSeat.{TimerSeat}
 use Rattle.timer_list.specs.Seats.{AreNewTimers, IsTimerSeatOf}
-use Rattle.timer_list.specs.Timers.{deadline_of}
-use Rattle.timer_list.specs.Timing.{TimedPoint, until_a_moment}
+use Rattle.timer_list.specs.Timing.{TimedPoint, timed_throughout}
 use Rattle.waiting.specs.Runners.{Runs, run_point}
-use Rattle.semaphore.specs.declared.sema.SemaSeat.{SemaSeat}
-use Rattle.tag_space.specs.declared.member.Member.{Member}
-use Rattle.block_queue.specs.declared.entry.Entry.{Entry}
-use Rattle.pipe_dev.specs.Filling.{Lending}
-use Rattle.pipe_dev.specs.ReadCalls.{calling, run_call}
-use Rattle.pipe_dev.specs.WriteCalls.{run_writer}
-use Rattle.plan9.specs.declared.pipes.Reader.{Reader}
-use Rattle.plan9.specs.declared.pipes.Writer.{Writer}
-use Rattle.plan9.specs.Halls.{Visiting}
-use Rattle.plan9.specs.Pools.{Holding}
+use Rattle.plan9.specs.Chains.{AreChained, RunsOut}
 
 -- a clock: its timers, and the first seat as long as nobody has it
 pub record Clocked : Type 0 where
@@ -37,15 +26,15 @@ abbrev pub IsSpareTimer : Timers → Option TimerSeat → Type 0
 IsSpareTimer timers None = ⊤
 IsSpareTimer timers (Some seat) = IsTimerSeatOf timers seat
 
+-- timers for this many processes, and this is nobody's seat, or one of theirs that nobody has
+pub record IsClock (timers : Timers) (seat : Option TimerSeat) (procs : ℕ) : Type 0 where
+  pub procs_are : timers.procs ≡ procs
+  pub spare : IsSpareTimer timers seat
+
 -- a clock of new timers, whose first seat nobody has
 abbrev pub IsNewClock : ℕ → Clocked → Type 0
 IsNewClock procs clock =
     (seat : TimerSeat) × AreNewTimers procs clock.timers seat × (clock.spare ≡ Some seat)
-
--- somebody had the first seat before
-abbrev pub IsTaken : Clocked → Fault → Type 0
-IsTaken clock fault.NoProc = clock.spare ≡ None
-IsTaken clock other = ⊥
 
 -- the first seat, which nobody had
 pub record IsFirstWatch (clock : Clocked) (watch : Watching) : Type 0 where
@@ -63,35 +52,43 @@ pub record IsFurtherWatch (old new child : Watching) : Type 0 where
   pub given : Splits old.timers.lock old.seat.seat new.seat.seat child.seat.seat
 
 -- all seats were given, as far as the seat can know
-abbrev pub WhyNoWatch : Watching → Watching → Fault → Type 0
-WhyNoWatch old new fault.NoProc = KnowsAllGiven old.timers.lock old.seat.seat new.seat.seat
-WhyNoWatch old new other = ⊥
+abbrev pub KnowsNoWatch : Watching → Watching → Type 0
+KnowsNoWatch old new = KnowsAllGiven old.timers.lock old.seat.seat new.seat.seat
+
+-- ---- many at once
+
+-- a watch gives another
+pub record GivesWatch (old new child : Watching) : Type 0 where
+  pub same : IsSameWatch old new
+  pub further : IsFurtherWatch old new child
+
+-- so many watches: the first one, and each other given by the one before it
+abbrev pub AreWatches : Clocked → ℕ → List Watching → Type 0
+AreWatches clock = AreChained GivesWatch (IsFirstWatch clock)
+
+-- one or more are asked for, and no more than the clock has
+pub record MayWatch (clock : Clocked) (count : ℕ) : Type 0 where
+  pub one : 0 < count
+  pub watches : count ≤ clock.timers.procs
+
+-- why there are no watches, in this order: too many were asked for, there is no memory, or somebody
+-- had the first one; or all were given by other watches, as far as the last of them could know
+abbrev pub WhyNoWatches : Clocked → ℕ → Fault → Type 0
+WhyNoWatches clock count fault.NoProc =
+    (¬ MayWatch clock count)
+    ⊎ (MayWatch clock count
+    × ((clock.spare ≡ None) ⊎ RunsOut GivesWatch (IsFirstWatch clock) KnowsNoWatch count))
+WhyNoWatches clock count fault.Memory = MayWatch clock count
+WhyNoWatches clock count other = ⊥
 
 -- ---- the state of a call with a watch
-
--- the state of a holder's call
-abbrev pub watched_point : Holding → Watching → TimedPoint SemaSeat
-watched_point holding watch = run_point holding.seat watch.seat holding.running
-
--- the state of a guest's call
-abbrev pub watched_guest : Visiting → Watching → TimedPoint Member
-watched_guest guest watch = run_point guest.member watch.seat guest.running
 
 -- the state of a sleep of a process alone
 abbrev pub watched_sleeper : Running → Watching → TimedPoint Unit
 watched_sleeper proc watch = run_point tt watch.seat proc
 
--- the state of a reader's call, with what its buffer holds
-abbrev pub watched_read : Reader → Watching → List ℕ → TimedPoint Lending
-watched_read reader watch buffer =
-    run_call (calling reader.end reader.proc buffer) watch.seat
-
--- the state of a writer's call
-abbrev pub watched_write : Writer → Watching → TimedPoint (Account Entry)
-watched_write writer watch = run_writer writer.end watch.seat writer.proc
-
 -- ---- a call with a watch
 
--- it waits until this many milliseconds after now, at the timers of the watch
-abbrev pub until : Watching → ℕ → ℕ → Runs TimerSeat
-until watch now ms = until_a_moment watch.timers (deadline_of now ms)
+-- it waits until this moment, at the timers of the watch, and has its timer whenever it sleeps
+abbrev pub until : Watching → ℕ → Runs TimerSeat
+until watch moment = timed_throughout watch.timers moment

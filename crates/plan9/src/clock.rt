@@ -2,29 +2,32 @@
 use sleep_wakeup::Proc;
 use std::alloc::Global;
 use std::marker::Model;
+use std::mem;
 use std::sync::Wait;
 use sync_base::{Fault, RendezId};
 use timer_list::{OpenedTimers, TimerSeat, Timers};
 
-/// A clock: timers, and their first seat as long as nobody has it.
+/// A clock: timers, and the first watch of them as long as nobody has it.
 #[derive(Drop)]
 pub struct Clock {
     timers: Timers,
     spare: Option<TimerSeat>,
+    procs: u64,
 }
 
 impl Model for Clock {
-    ghost use Rattle.plan9.specs.Watches.{Clocked, IsSpareTimer};
+    ghost use Rattle.plan9.specs.Watches.{Clocked, IsClock};
 
     ghost Value = { Clocked };
 
     ghost view = { λ clock. record { timers = clock.timers; spare = clock.spare } };
 
-    ghost invariant = { λ clock. IsSpareTimer clock.timers clock.spare };
+    ghost invariant = { λ clock. IsClock clock.timers clock.spare clock.procs };
 }
 
-/// A seat at the timers of a clock, with one timer. `Holder::acquire_within` waits by it, and a
-/// process that knows the time calls its `tick`. One thread has it at a time.
+/// A watch of a clock: a seat at its timers, with one timer. Each call with a deadline waits by
+/// one, and a process that knows the time calls its `tick`. It holds no process. One thread has it
+/// at a time, and may hand it to another.
 #[derive(Drop)]
 pub struct Watch<'t> {
     pub(crate) timers: &'t Timers,
@@ -43,10 +46,18 @@ impl<'t> Model for Watch<'t> {
 }
 
 impl Clock {
-    ghost use Rattle.std.specs.Prelude.{IfOk, IfErr, OnOk};
+    ghost use Rattle.std.specs.Prelude.{◌≡◌, ◌≤◌, ◌↔◌, true, [], None, IfOk, IfErr, OnOk, OnErr};
+    ghost use Rattle.std.specs.Vec.{vec_capacity};
+    ghost use Rattle.sync_base.specs.declared.fault.Fault.TheVariants.{NoProc};
     ghost use Rattle.sleep_core.specs.Limits.{IsProcCount};
     ghost use Rattle.timer_list.specs.Timers.{WhyNoTimers};
-    ghost use Rattle.plan9.specs.Watches.{IsFirstWatch, IsNewClock, IsTaken};
+    ghost use Rattle.plan9.specs.Watches.{
+      AreWatches,
+      IsFirstWatch,
+      IsNewClock,
+      MayWatch,
+      WhyNoWatches,
+    };
 
     /// A clock for this many processes, including the process that ticks. Refuses, in this order,
     /// as `NoProc` where they are not from 1 to 1,024, and `Memory`. Doesn't wait.
@@ -55,20 +66,32 @@ impl Clock {
         ensures in_range { OnOk result (IsProcCount procs) }
         ensures fault { IfErr result (WhyNoTimers procs) }
 
-        // Otherwise nobody has called it, and nobody has its first seat.
+        // Otherwise nobody has called it, and nobody has its first watch.
         ensures opened { IfOk result (IsNewClock procs) }
     {
         let OpenedTimers { timers, seat } = Timers::new(alloc, procs)?;
         Ok(Clock {
             timers,
             spare: Some(seat),
+            procs,
         })
     }
 
-    /// The first seat. Refuses as `NoProc` where somebody had it before. Takes no memory and
+    /// Whether nobody has had the first watch. Takes no memory and doesn't wait.
+    pub fn has_watch(&self) -> bool
+        ensures { result ≡ true ↔ ¬ (self.now.spare ≡ None) }
+    {
+        self.spare.is_some()
+    }
+
+    /// The first watch. Refuses as `NoProc` where somebody had it before. Takes no memory and
     /// doesn't wait.
-    pub fn first<'t>(&'t mut self) -> Result<Watch<'t>, Fault>
-        ensures fault { IfErr result (IsTaken self.old) }
+    pub fn watch<'t>(&'t mut self) -> Result<Watch<'t>, Fault>
+        // Refused first, and then there was no watch to lose.
+        ensures fault { IfErr result (λ fault. fault ≡ NoProc) }
+        ensures taken { OnErr result (self.old.spare ≡ None) }
+
+        // Otherwise it is the watch that nobody had.
         ensures first { IfOk result (IsFirstWatch self.old) }
     {
         match self.spare.take() {
@@ -79,30 +102,74 @@ impl Clock {
             }),
         }
     }
+
+    /// This many watches, in the order of their numbers: the first one, and each other split from
+    /// the one before it. Refuses, in this order, as `NoProc` where the count is 0 or above the
+    /// processes of the clock, as `Memory`, and as `NoProc` where somebody had the first watch
+    /// before. Takes memory for the list, and waits for the timers' lock.
+    pub fn watches<'t, R: Wait>(
+        &'t mut self,
+        alloc: Global,
+        rt: &R,
+        count: u64,
+    ) -> Result<Vec<Watch<'t>>, Fault>
+        // Refused, in this order.
+        ensures in_range { OnOk result (MayWatch self.old count) }
+        ensures fault { IfErr result (WhyNoWatches self.old count) }
+
+        // Otherwise no other watch was given.
+        ensures watches { IfOk result (λ watches. AreWatches self.old count watches.items) }
+    {
+        let mut watches = self.room_for(alloc, count)?;
+        let mut last = self.watch()?;
+        'splitting: for _ in 1..count {
+            let next = last.split(rt)?;
+            watches.push_reserved(mem::replace(&mut last, next));
+        }
+        watches.push_reserved(last);
+        Ok(watches)
+    }
+
+    // Room for so many watches. Who is refused here has not taken the first watch.
+    fn room_for<'t>(&self, alloc: Global, count: u64) -> Result<Vec<Watch<'t>>, Fault>
+        ensures may { OnOk result (MayWatch self.now count) }
+        ensures fault { IfErr result (WhyNoWatches self.now count) }
+        ensures none { IfOk result (λ watches. watches.items ≡ []) }
+        ensures room { IfOk result (λ watches. count ≤ vec_capacity watches) }
+    {
+        if count == 0 || self.procs < count {
+            return Err(Fault::NoProc);
+        }
+        let Ok(watches) = Vec::with_capacity(alloc, count as usize) else {
+            return Err(Fault::Memory);
+        };
+        Ok(watches)
+    }
 }
 
 impl<'t> Watch<'t> {
-    ghost use Rattle.std.specs.Prelude.{◌≡◌, ◌<◌, ◌≤◌, IfOk, IfErr, Err};
-    ghost use Rattle.sync_base.specs.declared.fault.Fault.TheVariants.{BadLevel, NoRendez};
+    ghost use Rattle.std.specs.Prelude.{◌≡◌, ◌<◌, ◌≤◌, IfOk, IfErr, OnErr, Err};
+    ghost use Rattle.sync_base.specs.declared.fault.Fault.TheVariants.{BadLevel, NoProc, NoRendez};
     ghost use Rattle.sync_base.specs.declared.limits.TheConstants.{TOP_LEVEL};
     ghost use Rattle.rendez_words.specs.Words.{procs_of, rendez_of};
     ghost use Rattle.timer_list.specs.Sleeping.{sleeping};
     ghost use Rattle.timer_list.specs.Ticking.{Ticks};
     ghost use Rattle.timer_list.specs.Timers.{deadline_of};
-    ghost use Rattle.timer_list.specs.Timing.{TimedCall};
+    ghost use Rattle.timer_list.specs.Timing.{TimedThroughout};
     ghost use Rattle.waiting.specs.Waiting.{point};
     ghost use Rattle.plan9.specs.Watches.{
       IsFurtherWatch,
       IsSameWatch,
-      WhyNoWatch,
+      KnowsNoWatch,
       watched_sleeper,
     };
 
-    /// A further seat, for another process. Refuses as `NoProc` where the clock has had all its
+    /// A further watch, for another process. Refuses as `NoProc` where the clock has had all its
     /// processes. It waits for the timers' lock. Takes no memory.
     pub fn split<R: Wait>(&mut self, rt: &R) -> Result<Watch<'t>, Fault>
-        ensures same { self.new.timers ≡ self.old.timers }
-        ensures fault { IfErr result (WhyNoWatch self.old self.new) }
+        ensures same { IsSameWatch self.old self.new }
+        ensures fault { IfErr result (λ fault. fault ≡ NoProc) }
+        ensures refused { OnErr result (KnowsNoWatch self.old self.new) }
         ensures further { IfOk result (IsFurtherWatch self.old self.new) }
     {
         let seat = self.timers.split(rt, &mut self.seat)?;
@@ -161,7 +228,7 @@ impl<'t> Watch<'t> {
 
         // Else it slept, with its timer set.
         ensures slept { rendez.0 < rendez_of proc.old.words → threshold < TOP_LEVEL
-            → TimedCall (sleeping threshold) rendez self.old.timers (deadline_of now ms)
+            → TimedThroughout (sleeping threshold) rendez self.old.timers (deadline_of now ms)
             (watched_sleeper proc.old self.old) result (watched_sleeper proc.new self.new) }
     {
         self.timers

@@ -1,75 +1,67 @@
-//! All that a program names: the library's types and calls in one order, and types that put a
-//! process together with what it calls by. Read the lists below from the top: what every call
-//! speaks of; a kernel and its processes, with `plan` and `forking`; what comes back where a
-//! process is refused, with `refusals`, and faults in words, with `texts`; pipes, with `pipes`,
-//! `noting`, `reading`, `sharing`, `place` and `streams`; semaphores, with `pool` and `vacant`;
-//! timers, with `clock` and `ticker`; tag spaces, with `hall` and `rforking`; and what else a
-//! caller may prove.
+//! All that a program names: the library's types and calls in one order. A thread is one process,
+//! and lends it to each call: to the end of a pipe, to a seat at a semaphore, to a member of a tag
+//! space, to a share of a read end, or to a watch of a clock. Read the lists below from the top:
+//! what every call speaks of; a kernel and its processes, with `plan` and `forking`; faults in
+//! words, with `texts`; pipes, with `pipes`, `ends`, `noting`, `shares`, `place`, `alone` and
+//! `streams`; semaphores, with `semaphores`; clocks, with `clock` and `ticker`; tag spaces, with
+//! `spaces` and `rforking`; `known`, by which these test who calls; and what else a caller may
+//! prove.
 #![tactic(auto)]
 
+mod alone;
 pub mod clock;
+pub mod ends;
 pub mod forking;
-pub mod hall;
+mod known;
 pub mod noting;
 pub mod pipes;
 mod place;
 pub mod plan;
-pub mod pool;
-pub mod reading;
-pub mod refusals;
 pub mod rforking;
-pub mod sharing;
+pub mod semaphores;
+pub mod shares;
+pub mod spaces;
 pub mod streams;
 pub mod texts;
 pub mod ticker;
-pub mod vacant;
 
 // What every call speaks of.
 pub use sync_base::{Fault, Flags, Mode, Note, NoteSet, Pid, Piece, RendezId, Tag, Wants, limits};
 
 // A kernel, counted from what will be made, and its processes: sleep, wakeup, notes and rfork.
-pub use crate::forking::fork;
+pub use crate::forking::{fork, forks};
 pub use crate::plan::Plan;
 pub use sleep_wakeup::{Done, Kernel, Opened as OpenedKernel, Proc, Roster, Start, Started};
 
 // Who waits where, for a program that hangs.
 pub use sleep_wakeup::{Look, ProcStatus, RendezStatus};
 
-// What comes back where a process, or ends, are refused; and faults and notes in words.
-pub use crate::refusals::{Refused, Unforked};
+// Faults and notes in words.
 pub use crate::texts::{FaultText, NoteTexts};
 
-// Pipes, and processes that have an end of one.
-pub use crate::noting::{take_note, write_unnoted};
-pub use crate::pipes::{Reader, Writer, fork_writers};
-pub use crate::reading::ShortRead;
-pub use crate::sharing::{Shared, Sharer, Unshared};
+// Pipes, one or many, and the calls of their ends.
+pub use crate::ends::{ReadCalls, ShortRead, WriteCalls};
+pub use crate::noting::take_note;
+pub use crate::pipes::{OpenedPipes, Pipes, PipesStart};
+pub use crate::shares::{Share, SharedEnd, Unshared};
 pub use crate::streams::{ReadStream, WriteStream};
 pub use pipe_dev::{
     End, Ends, Held, Long, Opened as OpenedPipe, Parts, Pipe, PipeStart, ReadAnswer, ReadEnd,
     StoredBlock, TryAnswer, Unfinished, WriteEnd, finish,
 };
 
-// Semaphores, and processes that hold their units.
-pub use crate::pool::{Holder, Pool};
-pub use crate::vacant::{NotHolder, Unseated, Vacant};
-pub use semaphore::{OpenedSema, Sema, SemaSeat, Semacquired};
+// Semaphores, and seats at them.
+pub use crate::semaphores::{Seat, Semaphore};
 
-// Timers, for waits that end, and seats that have them.
+// Clocks, for waits that end, and watches of them.
 pub use crate::clock::{Clock, Watch};
-pub use crate::ticker::{Beat, RealTime, TickSource, Ticker};
-pub use timer_list::{Deadline, OpenedTimers, TimerSeat, Timers};
+pub use crate::ticker::{Beat, RealTime, TickSource};
 
-// How a call of an end or of a tag space is run: as long as it takes, or until a deadline.
-pub use waiting::{Forever, Runner};
-
-// Tag spaces: rendezvous, rfork of them, and processes that are members of one.
-pub use crate::hall::{Guest, Hall};
-pub use crate::rforking::{ForkedGuest, UnforkedGuest};
+// Tag spaces: rendezvous and rfork, and members of them.
+pub use crate::rforking::{ForkedMember, UnforkedMember};
+pub use crate::spaces::{Member, Space};
+pub use tag_space::SpentMember;
 pub use tag_space::meeting::INTERRUPTED;
-pub use tag_space::{
-    Forked, Member, NotForked, Opened as OpenedSpace, SpentMember, TagSpace, rfork,
-};
 
 // What a caller has beside: a pipe for one thread, and probes for tests of calls.
 pub use sync_base::{

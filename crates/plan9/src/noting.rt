@@ -1,5 +1,6 @@
 //! Notes taken one kind at a time, and a write whose hangup leaves no note.
-ghost use Rattle.plan9.specs.Notings.{Keeps, TakesNote, WritesUnnoted, writer};
+ghost use Rattle.plan9.specs.Callers.{writer};
+ghost use Rattle.plan9.specs.Notings.{Keeps, TakesNote, WritesUnnoted};
 
 use pipe_dev::WriteEnd;
 use sleep_wakeup::Proc;
@@ -34,7 +35,7 @@ fn keep(proc: &mut Proc<'_>, left: NoteSet)
 /// Refuses as `write` does. If hung up it takes the note of a write on a closed pipe back, also a
 /// note that was pending before, since a process has at most one of a kind; other notes that were
 /// pending are pending again. After write(2) and notify(2). Own: that a writer takes its note back.
-pub fn write_unnoted<R: Wait>(
+pub(crate) fn write_unnoted<R: Wait>(
     alloc: Global,
     rt: &R,
     end: &mut WriteEnd<'_>,

@@ -4,9 +4,10 @@ ghost use Rattle.std.specs.Prelude.{◌≡◌, IfSome};
 ghost use Rattle.pipe_dev.specs.Ends.{IsSameReadEnd};
 ghost use Rattle.plan9.specs.Places.{IsLaid, Swaps, end_in};
 
-use crate::pool::Holder;
+use crate::alone::Alone;
 use counted_slot::{Claim, Counted, FREE, Fits, TAKEN};
 use pipe_dev::{ReadAnswer, ReadEnd, TryAnswer};
+use sleep_wakeup::Proc;
 use std::snapshot::Snapshot;
 use std::sync::Wait;
 use std::thread::yield_now;
@@ -15,7 +16,7 @@ use sync_base::Fault;
 /// The end while it lies between two turns.
 #[derive(Drop)]
 pub(crate) struct Lying<'p> {
-    end: ReadEnd<'p>,
+    end: Alone<ReadEnd<'p>>,
 }
 
 impl<'p> Fits for Lying<'p> {
@@ -23,7 +24,7 @@ impl<'p> Fits for Lying<'p> {
 
     type Tag = Snapshot<ReadEnd<'p>>;
 
-    ghost fits = { λ first lying. IsSameReadEnd first.value lying.end };
+    ghost fits = { λ first lying. IsSameReadEnd first.value lying.end.value };
 }
 
 /// The place of the end while nobody has the turn. While it is shared, only the calls below reach
@@ -57,6 +58,7 @@ pub(crate) fn place_of<'p>(end: ReadEnd<'p>) -> Place<'p>
     ensures { result.slot.value ≡ end.entry }
 {
     let first = Snapshot::of(&end);
+    let end = Alone::new(end);
     Place {
         slot: Counted::new(Some(Lying { end }), &first),
     }
@@ -75,7 +77,7 @@ fn end_lying<'p>(lying: Option<Lying<'p>>) -> Option<ReadEnd<'p>>
     ensures { result ≡ end_in lying.entry }
 {
     match lying {
-        Some(Lying { end }) => Some(end),
+        Some(Lying { end }) => Some(end.into_inner()),
         None => None,
     }
 }
@@ -83,7 +85,7 @@ fn end_lying<'p>(lying: Option<Lying<'p>>) -> Option<ReadEnd<'p>>
 // Puts this where the end lies, and takes what lay there.
 fn put<'p>(claim: Claim<'_, Option<Lying<'p>>>, lying: Option<Lying<'p>>) -> Swapped<'p>
     requires right { claim.right ≡ 2 }
-    requires fits { IfSome lying (λ lying. IsSameReadEnd claim.tag.value lying.end) }
+    requires fits { IfSome lying (λ lying. IsSameReadEnd claim.tag.value lying.end.value) }
     ensures { Swaps claim.entry.tag.value lying.entry result }
 {
     let what = Snapshot::of(&lying);
@@ -96,7 +98,7 @@ fn put<'p>(claim: Claim<'_, Option<Lying<'p>>>, lying: Option<Lying<'p>>) -> Swa
 
 // Does so once nobody else does.
 fn swap<'p, R: Wait>(rt: &R, place: &Place<'p>, lying: Option<Lying<'p>>) -> Swapped<'p>
-    requires { IfSome lying (λ lying. IsSameReadEnd place.now.slot.value lying.end) }
+    requires { IfSome lying (λ lying. IsSameReadEnd place.now.slot.value lying.end.value) }
     ensures { Swaps place.now.slot.value lying.entry result }
 {
     'trying: for _ in rt.forever() {
@@ -117,6 +119,7 @@ fn take_up<'p, R: Wait>(rt: &R, place: &Place<'p>) -> TakenUp<'p>
     'looking: for _ in rt.forever() {
         let Swapped { found, put: _ } = swap(rt, place, None);
         if let Some(Lying { end }) = found {
+            let end = end.into_inner();
             return TakenUp { end };
         }
         yield_now();
@@ -130,6 +133,7 @@ fn lay_down<'p, R: Wait>(rt: &R, place: &Place<'p>, taken: TakenUp<'p>) -> Recei
     ensures { IsLaid taken.entry.end result }
 {
     let TakenUp { end } = taken;
+    let end = Alone::new(end);
     let Swapped { found: _, put } = swap(rt, place, Some(Lying { end }));
     put
 }
@@ -141,7 +145,7 @@ pub(crate) struct Called<'p, A> {
 }
 
 // Each of these makes one call of the end that it has taken up, and lays it down.
-impl<'s, 'k> Holder<'s, 'k> {
+impl<'p> Place<'p> {
     ghost use Rattle.plan9.specs.Sharings.{
       CallsAndLays,
       ReadsBlockOnce,
@@ -150,49 +154,49 @@ impl<'s, 'k> Holder<'s, 'k> {
       buffers,
     };
 
-    pub(crate) fn read_shared<'p, R: Wait>(
-        &mut self,
+    pub(crate) fn read<R: Wait>(
+        &self,
         rt: &R,
-        place: &Place<'p>,
+        proc: &mut Proc<'_>,
         buffer: &mut [u8],
     ) -> Called<'p, Result<ReadAnswer, Fault>>
-        ensures { CallsAndLays place.now.slot.value self.old
-            (ReadsOnce (buffers buffer.old buffer.new) result.answer) result.laid self.new }
+        ensures { CallsAndLays self.now.slot.value proc.old
+            (ReadsOnce (buffers buffer.old buffer.new) result.answer) result.laid proc.new }
     {
-        let mut taken = take_up(rt, place);
-        let answer = taken.end.read(rt, &mut self.proc, buffer);
-        let laid = lay_down(rt, place, taken);
+        let mut taken = take_up(rt, self);
+        let answer = taken.end.read(rt, proc, buffer);
+        let laid = lay_down(rt, self, taken);
         Called { answer, laid }
     }
 
-    pub(crate) fn read_block_shared<'p, R: Wait>(
-        &mut self,
+    pub(crate) fn read_block<R: Wait>(
+        &self,
         rt: &R,
-        place: &Place<'p>,
+        proc: &mut Proc<'_>,
         block: &mut Vec<u8>,
     ) -> Called<'p, Result<ReadAnswer, Fault>>
-        ensures { CallsAndLays place.now.slot.value self.old
+        ensures { CallsAndLays self.now.slot.value proc.old
             (ReadsBlockOnce (buffers block.old.items block.new.items) result.answer)
-            result.laid self.new }
+            result.laid proc.new }
     {
-        let mut taken = take_up(rt, place);
-        let answer = taken.end.read_block(rt, &mut self.proc, block);
-        let laid = lay_down(rt, place, taken);
+        let mut taken = take_up(rt, self);
+        let answer = taken.end.read_block(rt, proc, block);
+        let laid = lay_down(rt, self, taken);
         Called { answer, laid }
     }
 
-    pub(crate) fn try_shared<'p, R: Wait>(
-        &mut self,
+    pub(crate) fn try_read<R: Wait>(
+        &self,
         rt: &R,
-        place: &Place<'p>,
+        proc: &mut Proc<'_>,
         buffer: &mut [u8],
     ) -> Called<'p, Result<TryAnswer, Fault>>
-        ensures { CallsAndLays place.now.slot.value self.old
-            (TriesOnce (buffers buffer.old buffer.new) result.answer) result.laid self.new }
+        ensures { CallsAndLays self.now.slot.value proc.old
+            (TriesOnce (buffers buffer.old buffer.new) result.answer) result.laid proc.new }
     {
-        let mut taken = take_up(rt, place);
-        let answer = taken.end.try_read(&mut self.proc, buffer);
-        let laid = lay_down(rt, place, taken);
+        let mut taken = take_up(rt, self);
+        let answer = taken.end.try_read(proc, buffer);
+        let laid = lay_down(rt, self, taken);
         Called { answer, laid }
     }
 }

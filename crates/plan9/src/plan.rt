@@ -100,7 +100,7 @@ impl Plan {
         }
     }
 
-    /// A tag space, or a `Hall`, of this many members, each a process. Takes no memory and doesn't
+    /// A tag space of this many members, each a process. Takes no memory and doesn't
     /// wait.
     pub fn space(self, members: u64) -> Plan
         ensures { Seats members self result }
@@ -108,14 +108,14 @@ impl Plan {
         self.processes(members).rendez(members)
     }
 
-    /// A semaphore, or a `Pool`, for this many processes. Takes no memory and doesn't wait.
+    /// A semaphore for this many processes. Takes no memory and doesn't wait.
     pub fn semaphore(self, procs: u64) -> Plan
         ensures { Seats procs self result }
     {
         self.processes(procs).rendez(procs)
     }
 
-    /// Timers, or a `Clock`, for this many processes: they take no Rendez. Takes no memory and
+    /// A clock for this many processes: it takes no Rendez. Takes no memory and
     /// doesn't wait.
     pub fn timers(self, procs: u64) -> Plan
         ensures { CountsProcsAlone procs self result }

@@ -1,57 +1,71 @@
-//! A reader and a writer as std's `Read` and `Write`, for code that knows no pipes.
+//! The ends of a pipe as std's `Read` and `Write`, for code that knows no pipes. Those calls have
+//! no room for a process, so a stream holds one beside its end.
 ghost use Rattle.std.specs.Prelude.{◌≡◌, None};
 ghost use Rattle.plan9.specs.Streams.{kind_of as kind};
 
-use crate::pipes::{Reader, Writer};
+use crate::ends::ReadCalls;
+use pipe_dev::{ReadEnd, WriteEnd};
+use sleep_wakeup::Proc;
 use std::alloc::Global;
 use std::io::{self, ErrorKind, Read, Write};
 use std::sync::Wait;
 use sync_base::Fault;
 use sync_base::limits::ATOMIC_SIZE;
 
-/// A reader as std's `Read`, with what its waits need. Both may be taken out again.
+/// A read end as std's `Read`, with the process that reads. Both may be taken out again.
 #[derive(Drop)]
 pub struct ReadStream<'r, 'p, 'k, R> {
     pub rt: &'r R,
-    pub reader: Reader<'p, 'k>,
+    pub end: ReadEnd<'p>,
+    pub proc: Proc<'k>,
     /// The fault of the last call that failed: an `io::Error` has only its kind.
     pub fault: Option<Fault>,
 }
 
-/// A writer as std's `Write`, with what its calls need. All may be taken out again.
+/// A write end as std's `Write`, with the process that writes. Both may be taken out again.
 #[derive(Drop)]
 pub struct WriteStream<'r, 'p, 'k, R> {
     pub alloc: Global,
     pub rt: &'r R,
-    pub writer: Writer<'p, 'k>,
+    pub end: WriteEnd<'p>,
+    pub proc: Proc<'k>,
     /// The fault of the last call that failed: an `io::Error` has only its kind.
     pub fault: Option<Fault>,
 }
 
 impl<'r, 'p, 'k, R> ReadStream<'r, 'p, 'k, R> {
-    /// A stream of this reader. Takes no memory and doesn't wait.
-    pub fn new(rt: &'r R, reader: Reader<'p, 'k>) -> ReadStream<'r, 'p, 'k, R>
-        ensures reader { result.reader ≡ reader.entry }
+    /// A stream from this end, read by this process. Takes no memory and doesn't wait.
+    pub fn new(rt: &'r R, end: ReadEnd<'p>, proc: Proc<'k>) -> ReadStream<'r, 'p, 'k, R>
+        ensures end { result.end ≡ end.entry }
+        ensures proc { result.proc ≡ proc.entry }
         ensures fault { result.fault ≡ None }
     {
         ReadStream {
             rt,
-            reader,
+            end,
+            proc,
             fault: None,
         }
     }
 }
 
 impl<'r, 'p, 'k, R> WriteStream<'r, 'p, 'k, R> {
-    /// A stream of this writer. Takes no memory and doesn't wait.
-    pub fn new(alloc: Global, rt: &'r R, writer: Writer<'p, 'k>) -> WriteStream<'r, 'p, 'k, R>
-        ensures writer { result.writer ≡ writer.entry }
+    /// A stream into this end, written by this process. Takes no memory and doesn't wait.
+    pub fn new(
+        alloc: Global,
+        rt: &'r R,
+        end: WriteEnd<'p>,
+        proc: Proc<'k>,
+    ) -> WriteStream<'r, 'p, 'k, R>
+        ensures end { result.end ≡ end.entry }
+        ensures proc { result.proc ≡ proc.entry }
         ensures fault { result.fault ≡ None }
     {
         WriteStream {
             alloc,
             rt,
-            writer,
+            end,
+            proc,
             fault: None,
         }
     }
@@ -76,7 +90,7 @@ impl<'r, 'p, 'k, R: Wait> Read for ReadStream<'r, 'p, 'k, R> {
     ghost use Rattle.std.specs.Io.KnownBytes.{ReadConsumes};
     ghost use Rattle.plan9.specs.Streams.{Streams, lent};
 
-    /// Reads as `Reader::next_piece`, and returns no bytes at the end alone: empty writes are
+    /// Reads as `ReadCalls::next_piece`, and returns no bytes at the end alone: empty writes are
     /// passed. A buffer of no bytes gets none, and nothing is read. It waits. Takes no memory. A
     /// fault is in `fault`, which a read that succeeds leaves as it was. The error then is
     /// `OutOfMemory`, `BrokenPipe` for `Hungup`, `ResourceBusy` for `DoubleSleep`, and else
@@ -84,15 +98,15 @@ impl<'r, 'p, 'k, R: Wait> Read for ReadStream<'r, 'p, 'k, R> {
     fn read(&mut self, buf: &mut [u8]) -> io::Result<usize>
         ensures bound { ReadsAtMost result buf.new }
         ensures bytes { ReadConsumes None None result buf.new }
-        ensures reads { Streams (lent self.old.reader buf.old) result self.new.fault
-            (lent self.new.reader buf.new) }
+        ensures reads { Streams (lent self.old.end self.old.proc buf.old) result self.new.fault
+            (lent self.new.end self.new.proc buf.new) }
         ensures kept { OnOk result (self.new.fault ≡ self.old.fault) }
     {
         if buf.is_empty() {
             return Ok(0);
         }
         'reading: for _ in self.rt.forever() {
-            match self.reader.next_piece(self.rt, buf) {
+            match self.end.next_piece(self.rt, &mut self.proc, buf) {
                 Ok(Some(0)) => {}
                 Ok(Some(count)) => return Ok(count),
                 Ok(None) => return Ok(0),
@@ -110,24 +124,28 @@ impl<'r, 'p, 'k, R: Wait> Write for WriteStream<'r, 'p, 'k, R> {
     ghost use Rattle.std.specs.Prelude.{◌≡◌, None, OnOk, OnErr};
     ghost use Rattle.std.specs.Io.{WritesAtMost};
     ghost use Rattle.std.specs.Io.KnownBytes.{WriteAppends};
+    ghost use Rattle.plan9.specs.Callers.{writer};
     ghost use Rattle.plan9.specs.Streams.{StreamsOut};
 
     /// Writes the first 65,536 bytes, or all where there are fewer, as one write, and returns how
-    /// many; no bytes are no write. It waits, and takes memory, as `Writer::write`. A fault is
+    /// many; no bytes are no write. It waits, and takes memory, as `WriteEnd::write`. A fault is
     /// kept, and the error chosen, as in `ReadStream`.
     #[tactic(auto, using(crate::proofs::StreamLemmas::writes_front))]
     fn write(&mut self, buf: &[u8]) -> io::Result<usize>
         ensures bound { WritesAtMost result buf.now }
         ensures bytes { WriteAppends None None result buf.now }
-        ensures writes { StreamsOut self.old.writer buf.now result self.new.fault
-            self.new.writer }
+        ensures writes { StreamsOut (writer self.old.end self.old.proc) buf.now result
+            self.new.fault (writer self.new.end self.new.proc) }
         ensures kept { OnOk result (self.new.fault ≡ self.old.fault) }
     {
         let count = buf.len().min(ATOMIC_SIZE as usize);
         if count == 0 {
             return Ok(0);
         }
-        match self.writer.write(self.alloc, self.rt, &buf[..count]) {
+        match self
+            .end
+            .write(self.alloc, self.rt, &mut self.proc, &buf[..count])
+        {
             Ok(_) => Ok(count),
             Err(fault) => {
                 self.fault = Some(fault);

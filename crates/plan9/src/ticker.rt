@@ -1,4 +1,4 @@
-//! A process that ticks a clock, and real time.
+//! Ticks of a clock, and real time.
 use crate::clock::Watch;
 use sleep_wakeup::Proc;
 use std::sync::Wait;
@@ -11,7 +11,7 @@ use sync_base::NoteSet;
 // The nanoseconds of a millisecond.
 const NANOS: u128 = 1_000_000;
 
-/// Where a ticker gets its moments from.
+/// Where `Watch::run` gets its moments from.
 pub trait TickSource {
     ghost use Rattle.std.specs.Prelude.{⊤, ℕ};
 
@@ -25,7 +25,7 @@ pub trait TickSource {
 }
 
 /// Real time that a ticker and the processes that wait share: the milliseconds since it was made.
-/// The ticker runs by its `beat`, and `now` is the moment at which a wait begins.
+/// `Watch::run` ticks by its `beat`, and `now` is the moment at which a wait begins.
 #[derive(Drop)]
 pub struct RealTime {
     began: Option<Instant>,
@@ -126,30 +126,29 @@ impl<'r, R: Clock> TickSource for Beat<'r, R> {
     }
 }
 
-/// A process that ticks a clock, by a seat at its timers: `Ticker { watch, proc }`.
-#[derive(Drop)]
-pub struct Ticker<'t, 'k> {
-    pub watch: Watch<'t>,
-    pub proc: Proc<'k>,
-}
-
-impl<'t, 'k> Ticker<'t, 'k> {
+impl<'t> Watch<'t> {
     ghost use Rattle.plan9.specs.Tickers.{TicksOn, timed};
 
     /// Ticks at each moment that `time` gives, once and in their order, until notes are pending for
-    /// its process, and returns the notes, which are pending no longer. It looks for notes before
+    /// the process, and returns the notes, which are pending no longer. It looks for notes before
     /// each moment that it asks for, so the last tick may come after a note. It waits, in `time`
     /// and for the timers' lock. Takes no memory.
-    pub fn run<R: Wait, T: TickSource>(&mut self, rt: &R, time: &mut T) -> NoteSet
-        ensures { TicksOn T.tells (timed self.old time.old) result (timed self.new time.new) }
+    pub fn run<R: Wait, T: TickSource>(
+        &mut self,
+        rt: &R,
+        proc: &mut Proc<'_>,
+        time: &mut T,
+    ) -> NoteSet
+        ensures { TicksOn T.tells (timed self.old proc.old time.old) result
+            (timed self.new proc.new time.new) }
     {
         'ticking: for _ in rt.forever() {
-            let came = self.proc.notes();
+            let came = proc.notes();
             if !came.is_empty() {
                 return came;
             }
             let moment = time.next();
-            let _expired = self.watch.tick(rt, &mut self.proc, moment);
+            let _expired = self.tick(rt, proc, moment);
         }
         unreachable!()
     }

@@ -13,11 +13,13 @@ pub fn cut(line: &str) -> (&str, Option<&str>) {
     }
 }
 
-/// A line: the process whose it is, what it asks for, and whether that is played apart.
+/// A line: the process whose it is, what it asks for, the role in which a call is made, if one is
+/// named, and whether the call is played apart.
 #[derive(Clone, Copy)]
 pub struct Line<'t> {
     pub process: Option<u64>,
     pub verb: Verb<'t>,
+    pub role: Option<RoleAt>,
     pub apart: bool,
 }
 
@@ -30,17 +32,30 @@ pub fn line_of(text: &str) -> Option<Line<'_>> {
         None => of_scene(text, first, &mut words)?,
         Some(process) => of_process(process, words.next()?, &mut words)?,
     };
-    let apart = match verb {
-        Plan(_) | At(_, _) => false,
-        Makes(_, _) if process != Some(0) => is_apart(&mut words)?,
-        _ if words.next().is_some() => return None,
-        _ => false,
+    let Tail { role, next } = match verb {
+        Plan(_) | At(_, _) => NO_TAIL,
+        Makes(_, _) if process != Some(0) => role_and_next(&mut words),
+        _ => Tail {
+            next: words.next(),
+            ..NO_TAIL
+        },
+    };
+    let apart = match next {
+        None => false,
+        Some("&") if may_be_apart(process, verb) && words.next().is_none() => true,
+        Some(_) => return None,
     };
     Some(Line {
         process,
         verb,
+        role,
         apart,
     })
+}
+
+// Whether it is a call of another process than 0.
+fn may_be_apart(process: Option<u64>, verb: Verb<'_>) -> bool {
+    process != Some(0) && matches!(verb, Makes(_, _))
 }
 
 // A line of no process.
@@ -76,6 +91,7 @@ fn of_process<'t>(process: u64, word: &str, words: &mut Words<'t>) -> Option<Ver
         "notes" => Makes(Notes, ""),
         "put_back" => Makes(PutBack(kinds(words)?), ""),
         _ if process == 0 => return of_zero(word, words),
+        "gets" => Gets(role(words)??),
         "clock" => TakeSeat(object(words)?),
         "waits" => Waits,
         "ends" => Ends,
@@ -141,20 +157,45 @@ fn deadline(words: &mut Words<'_>) -> Option<Deadline> {
     Some(Deadline { now, ms })
 }
 
+// A role that may stand there, and the word after it.
+#[derive(Clone, Copy)]
+struct Tail<'t> {
+    role: Option<RoleAt>,
+    next: Option<&'t str>,
+}
+
+const NO_TAIL: Tail<'static> = Tail {
+    role: None,
+    next: None,
+};
+
 // The role that stands there, if one does: `reader`, `reader 2`, `reader back` or `reader 2 back`.
+// Nothing else may stand there.
 fn role(words: &mut Words<'_>) -> Option<Option<RoleAt>> {
-    let Some(name) = words.next() else {
-        return Some(None);
+    match role_and_next(words) {
+        Tail { role, next: None } => Some(role),
+        _ => None,
+    }
+}
+
+// The role that stands there, if one does, and what comes after it.
+fn role_and_next<'t>(words: &mut Words<'t>) -> Tail<'t> {
+    let mut next = words.next();
+    let Some(name) = next.and_then(name_of) else {
+        return Tail { role: None, next };
     };
-    let name = name_of(name)?;
-    let (object, back) = match (words.next(), words.next()) {
-        (None, _) => (1, false),
-        (Some("back"), None) => (1, true),
-        (Some(word), None) => (object_of(word)?, false),
-        (Some(word), Some("back")) => (object_of(word)?, true),
-        _ => return None,
-    };
-    Some(Some(RoleAt { name, object, back }))
+    next = words.next();
+    let mut object = 1;
+    if let Some(number) = next.and_then(object_of) {
+        object = number;
+        next = words.next();
+    }
+    let back = next == Some("back");
+    if back {
+        next = words.next();
+    }
+    let role = Some(RoleAt { name, object, back });
+    Tail { role, next }
 }
 
 // The role that a word names.
@@ -168,14 +209,5 @@ fn name_of(word: &str) -> Option<RoleName> {
         "guest" => Some(RoleName::Guest),
         "sharer" => Some(RoleName::Sharer),
         _ => None,
-    }
-}
-
-// Whether `&` stands after the operands. Nothing else may stand there.
-fn is_apart(words: &mut Words<'_>) -> Option<bool> {
-    match words.next() {
-        None => Some(false),
-        Some("&") if words.next().is_none() => Some(true),
-        Some(_) => None,
     }
 }

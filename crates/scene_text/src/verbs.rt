@@ -15,8 +15,34 @@ pub enum RoleName {
     Sharer,
 }
 
+impl RoleName {
+    /// Whether a process in this role makes this call.
+    pub fn makes(self, call: Call) -> bool {
+        match call {
+            Call::Sleep(_, _) | Call::SleepWithin(_, _, _) | Call::Wakeup(_, _) => self.forks(),
+            Call::Tick(_) | Call::PutBack(_) => self.forks(),
+            Call::Note(_, _) | Call::Notes => self != RoleName::Sharer,
+            Call::Write | Call::WriteWithin(_) | Call::WriteLong => self == RoleName::Writer,
+            Call::Read(_) => matches!(self, RoleName::Reader | RoleName::Sharer),
+            Call::ReadWithin(_, _) | Call::TryRead(_) | Call::ReadBlock => self == RoleName::Reader,
+            Call::NextPiece(_) | Call::ReadExact(_) => self == RoleName::Reader,
+            Call::Hangup => matches!(self, RoleName::Reader | RoleName::Writer),
+            Call::Acquire | Call::TryAcquire | Call::AcquireWithin(_) => self == RoleName::Holder,
+            Call::Release(_) => self == RoleName::Holder,
+            Call::Rendezvous(_, _) | Call::RendezvousWithin(_, _, _) => self == RoleName::Guest,
+            Call::RendezvousWord(_, _) => self == RoleName::Guest,
+            Call::Rendez => matches!(self, RoleName::Holder | RoleName::Guest),
+        }
+    }
+
+    /// Whether a process in this role makes the calls of a process alone, and forks.
+    pub fn forks(self) -> bool {
+        matches!(self, RoleName::Plain | RoleName::Reader | RoleName::Writer)
+    }
+}
+
 /// A role at an object, and whether it is at the direction back.
-#[derive(Clone, Copy)]
+#[derive(Clone, Copy, PartialEq, Eq)]
 pub struct RoleAt {
     pub name: RoleName,
     pub object: u64,
@@ -47,6 +73,7 @@ pub enum Verb<'t> {
     Stranger(u64, u64, RoleAt),
     Fork(Option<RoleAt>),
     Rfork(Flags, Option<RoleAt>),
+    Gets(RoleAt),
     TakeSeat(u64),
     NoteGroup(u64, NoteSet),
     // what is given away, and what is left
@@ -68,6 +95,24 @@ pub enum Verb<'t> {
     Posted,
     /// A call, with a word for the bytes that it writes.
     Makes(Call, &'t str),
+}
+
+/// A call, and the role in which it is made, if a line names one.
+#[derive(Clone, Copy)]
+pub struct Asked {
+    pub call: Call,
+    pub role: Option<RoleAt>,
+}
+
+impl Asked {
+    /// Whether it may be made in this role.
+    pub fn suits(self, role: RoleAt) -> bool {
+        let is_named = match self.role {
+            Some(named) => named == role,
+            None => true,
+        };
+        is_named && role.name.makes(self.call)
+    }
 }
 
 /// A call that a process makes in its role.
@@ -106,6 +151,15 @@ pub enum Call {
 }
 
 impl Call {
+    /// Whether it takes a probe.
+    pub fn takes_probe(self) -> bool {
+        match self {
+            Call::Sleep(_, _) | Call::Acquire | Call::TryAcquire | Call::AcquireWithin(_) => true,
+            Call::Rendezvous(_, _) | Call::RendezvousWithin(_, _, _) => true,
+            _ => false,
+        }
+    }
+
     /// For how many bytes it has room, if it is a read that says so.
     pub fn room(self) -> Option<u64> {
         match self {

@@ -6,18 +6,23 @@ use Rattle.semaphore.specs.declared.sema.SemaSeat.{SemaSeat}
 use Rattle.semaphore.specs.Acquiring.{acquiring}
 use Rattle.semaphore.specs.Seats.{rendez_at, units_given}
 use Rattle.timer_list.specs.declared.timers.Timers.{Timers}
-use Rattle.timer_list.specs.Timing.{TimedPoint, TimedCall}
+use Rattle.timer_list.specs.declared.timers.TimerSeat.{TimerSeat}
+use Rattle.timer_list.specs.Timing.{TimedPoint, until_a_moment}
+use Rattle.waiting.specs.Runners.{Runs}
 
 -- one unit where it was acquired, else none
 abbrev pub timed_units_of : Result Unit Fault → ℕ
 timed_units_of (Ok unit) = 1
 timed_units_of (Err why) = 0
 
--- a tsemacquire until this moment: the answer Ok is exactly one unit that was given, and any other
+-- a tsemacquire that is run so: the answer Ok is exactly one unit that was given, and any other
 -- answer is none
-pub record TimedAcquire (sema : Sema) (timers : Timers) (moment : ℕ)
-    (before : TimedPoint SemaSeat) (answer : Result Unit Fault) (after : TimedPoint SemaSeat)
-    : Type 0 where
+pub record AcquiresBy (runs : Runs TimerSeat) (sema : Sema) (before : TimedPoint SemaSeat)
+    (answer : Result Unit Fault) (after : TimedPoint SemaSeat) : Type 0 where
   pub units : units_given after.at.seat ≡ units_given before.at.seat + timed_units_of answer
-  pub takes : TimedCall (acquiring sema) (rendez_at sema before.at.seat) timers moment
-      before answer after
+  pub takes : runs.ran (acquiring sema) (rendez_at sema before.at.seat) before answer after
+
+-- a tsemacquire until this moment
+abbrev pub TimedAcquire : Sema → Timers → ℕ → TimedPoint SemaSeat → Result Unit Fault
+    → TimedPoint SemaSeat → Type 0
+TimedAcquire sema timers moment = AcquiresBy (until_a_moment timers moment) sema

@@ -2,9 +2,10 @@
 ghost use Rattle.std.specs.Prelude.{◌≡◌};
 ghost use Rattle.kernel_lock.specs.Seats.{number_of};
 ghost use Rattle.semaphore.specs.Seats.{OwnsRow, IsSemaSeatOf};
-ghost use Rattle.semaphore.specs.Timing.{TimedAcquire};
+ghost use Rattle.semaphore.specs.Timing.{AcquiresBy};
 ghost use Rattle.timer_list.specs.Seats.{IsTimerSeatOf};
 ghost use Rattle.timer_list.specs.Timers.{deadline_of};
+ghost use Rattle.timer_list.specs.Timing.{timed_throughout};
 ghost use Rattle.waiting.specs.Runners.{run_point};
 
 use crate::acquiring::Acquire;
@@ -44,7 +45,7 @@ impl Sema {
         // When it returns, its timer is cancelled.
         ensures timer { IsTimerSeatOf timers.now timer.new }
         ensures timer_number { number_of timer.new.seat ≡ number_of timer.old.seat }
-        ensures called { TimedAcquire self.now timers.now (deadline_of now ms)
+        ensures called { AcquiresBy (timed_throughout timers.now (deadline_of now ms)) self.now
             (run_point seat.old timer.old proc.old) result
             (run_point seat.new timer.new proc.new) }
     {
@@ -74,7 +75,7 @@ impl Sema {
         // When it returns, its timer is cancelled.
         ensures timer { IsTimerSeatOf timers.now timer.new }
         ensures timer_number { number_of timer.new.seat ≡ number_of timer.old.seat }
-        ensures called { TimedAcquire self.now timers.now (deadline_of now ms)
+        ensures called { AcquiresBy (timed_throughout timers.now (deadline_of now ms)) self.now
             (run_point seat.old timer.old proc.old) result
             (run_point seat.new timer.new proc.new) }
     {

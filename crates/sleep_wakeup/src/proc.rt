@@ -1,12 +1,8 @@
 //! A process.
+use crate::steps::Steps;
 use rendez_words::{Seat, Words};
 use std::marker::Model;
-use std::snapshot::Snapshot;
 use sync_base::Pid;
-
-/// The steps that a process had made at some moment, as contracts alone see them. They take no
-/// memory.
-pub type Steps = Snapshot<Option<Seat>>;
 
 /// A process of a kernel. One thread has it at a time, and may hand it to another.
 #[derive(Drop)]
@@ -71,9 +67,9 @@ impl<'k> Proc<'k> {
 
     /// Its steps up to now. This function is there for the specification, and does nothing.
     pub fn steps(&self) -> Steps
-        ensures { result.value ≡ Some self.now.process }
+        ensures { result.process ≡ Some self.now.process }
     {
-        Snapshot::of(&self.seat)
+        Steps::of(&self.seat)
     }
 
     /// Its steps are those of a process in a run of the core, so the laws of the core hold of them.

@@ -1,5 +1,6 @@
-//! Eight processes that acquire and release units, with notes, time-outs and ticks between; pools
-//! of each size, and one whose list of holders is refused memory; and the example of semacquire(2).
+//! Eight processes that acquire and release units, with notes, time-outs and ticks between;
+//! semaphores of each size, and one whose list of seats is refused memory; calls by a process of
+//! another kernel; and the example of semacquire(2).
 ghost use Rattle.sleep_wakeup.specs.Starts.{IsStartOf};
 ghost use Rattle.semaphore.specs.Seats.{OwnsRow, IsSemaSeatOf};
 ghost use Rattle.timer_list.specs.Seats.{IsTimerSeatOf};
@@ -7,15 +8,17 @@ ghost use Rattle.timer_list.specs.Seats.{IsTimerSeatOf};
 use crate::dice::{Dice, seed_of};
 use crate::kernels::{forked, kernel_of, push};
 use plan9::{
-    Clock, Fault, Holder, Kernel, Note, NoteSet, OpenedKernel, OpenedSema, OpenedTimers, Pid, Pool,
-    Proc, Refused, Roster, Sema, SemaSeat, Semacquired, Start, Started, TimerSeat, Timers, Watch,
+    Clock, Fault, Kernel, Note, NoteSet, OpenedKernel, Pid, Proc, Roster, Seat, Semaphore, Start,
+    Started, Watch, forks,
 };
+use semaphore::{OpenedSema, Sema, SemaSeat, Semacquired};
 use std::alloc::Global;
 use std::process::Abort;
 use std::sync::Wait;
 use std::sync::atomic::AtomicU64;
 use std::sync::atomic::Ordering::SeqCst;
 use std::thread::{self, Threads, join, yield_now};
+use timer_list::{OpenedTimers, TimerSeat, Timers};
 
 const HOLDERS: u64 = 8;
 
@@ -25,7 +28,7 @@ const UNITS: u64 = 1_000;
 /// The units at first: fewer than processes.
 const OPENING: u32 = 3;
 
-/// What the processes share outside the pool.
+/// What the processes share outside the semaphore.
 #[derive(Drop)]
 struct Board {
     seed: u64,
@@ -38,7 +41,8 @@ struct Board {
 /// A process of the crowd.
 #[derive(Drop)]
 struct Job<'s, 't, 'k> {
-    holder: Holder<'s, 'k>,
+    proc: Proc<'k>,
+    seat: Seat<'s>,
     watch: Watch<'t>,
     number: u64,
 }
@@ -53,13 +57,16 @@ struct Work {
 
 // One acquire of one of the three kinds. Says whether it got a unit.
 fn acquire<R: Wait>(rt: &R, job: &mut Job, board: &Board, kind: u64) -> Result<bool, Fault> {
+    let Job {
+        proc,
+        seat,
+        watch,
+        number: _,
+    } = job;
     let waited = match kind {
-        0 => job.holder.acquire(rt),
-        1 => return Ok(job.holder.try_acquire(rt)),
-        _ => {
-            let now = board.now.load(SeqCst);
-            job.holder.acquire_within(rt, &mut job.watch, now, 3)
-        }
+        0 => seat.acquire(rt, proc),
+        1 => return seat.try_acquire(rt, proc),
+        _ => seat.acquire_within(rt, proc, watch, board.now.load(SeqCst), 3),
     };
     match waited {
         Ok(()) => Ok(true),
@@ -73,7 +80,7 @@ fn turn<R: Wait>(rt: &R, job: &mut Job, board: &Board, dice: &mut Dice, work: &m
     match acquire(rt, job, board, dice.roll(3)) {
         Ok(true) => {
             work.acquired = work.acquired.saturating_add(1);
-            match job.holder.release(rt, 1) {
+            match job.seat.release(rt, &mut job.proc, 1) {
                 Ok(_) => work.released = work.released.saturating_add(1),
                 Err(_) => work.wrong = work.wrong.saturating_add(1),
             }
@@ -83,7 +90,7 @@ fn turn<R: Wait>(rt: &R, job: &mut Job, board: &Board, dice: &mut Dice, work: &m
     }
     let noted = dice.roll(64);
     let interrupt = NoteSet::of(Note::Interrupt);
-    if noted < HOLDERS && job.holder.postnote(Pid(noted + 2), interrupt).is_err() {
+    if noted < HOLDERS && job.proc.postnote(Pid(noted + 1), interrupt).is_err() {
         work.wrong = work.wrong.saturating_add(1);
     }
 }
@@ -119,42 +126,34 @@ fn ticks<R: Wait>(rt: &R, watch: &mut Watch, proc: &mut Proc, board: &Board) -> 
     good
 }
 
-// One more of the crowd, with its seat at the clock and its number.
-fn join_in<'s, 't, 'k, R: Wait + Abort>(
-    rt: &R,
-    jobs: &mut Vec<Job<'s, 't, 'k>>,
-    watch: &mut Watch<'t>,
-    holder: Holder<'s, 'k>,
-) {
-    let number = jobs.len() as u64;
-    let watch = watch.split(rt).expect(rt, "no seat at the clock");
-    let job = Job {
-        holder,
-        watch,
-        number,
-    };
-    push(rt, jobs, job);
-}
-
-// The crowd's processes.
+// The crowd's processes, each with a seat and a watch.
 fn jobs_of<'s, 't, 'k, R: Wait + Abort>(
     rt: &R,
     alloc: Global,
-    holders: Vec<Holder<'s, 'k>>,
+    procs: Vec<Proc<'k>>,
+    seats: Vec<Seat<'s>>,
     watch: &mut Watch<'t>,
 ) -> Vec<Job<'s, 't, 'k>> {
     let mut jobs = Vec::new(alloc);
-    for holder in holders {
-        join_in(rt, &mut jobs, watch, holder);
+    for (proc, seat) in procs.into_iter().zip(seats) {
+        let number = jobs.len() as u64;
+        let watch = watch.split(rt).expect(rt, "no watch is left");
+        let job = Job {
+            proc,
+            seat,
+            watch,
+            number,
+        };
+        push(rt, &mut jobs, job);
     }
     jobs
 }
 
 // How many units are there.
-fn units_left<R: Wait>(rt: &R, last: &mut Holder) -> u64 {
+fn units_left<R: Wait>(rt: &R, proc: &mut Proc<'_>, last: &mut Seat<'_>) -> u64 {
     let mut count = 0u64;
     for _ in 0..2 * HOLDERS {
-        if last.try_acquire(rt) {
+        if last.try_acquire(rt, proc) == Ok(true) {
             count = count.saturating_add(1);
         }
     }
@@ -178,7 +177,7 @@ fn run_crowd<'s, 't, 'k, R: Threads + Wait + Abort + Sync>(
     rt: &R,
     jobs: Vec<Job<'s, 't, 'k>>,
     mut watch: Watch<'t>,
-    mut ticker: Proc<'k>,
+    ticker: &mut Proc<'k>,
     seed: u64,
 ) -> Vec<Work> {
     let board = Board {
@@ -193,144 +192,191 @@ fn run_crowd<'s, 't, 'k, R: Threads + Wait + Abort + Sync>(
             jobs,
             &|mut job: Job| -> Work { works(rt, &mut job, &board) },
         ),
-        || ticks(rt, &mut watch, &mut ticker, &board),
+        || ticks(rt, &mut watch, ticker, &board),
     );
     assert!(rt; good);
     done.ok().expect(rt, "no memory for the answers")
 }
 
-// Runs the holders, of whom the last one counts what is left.
+// Runs the crowd by all seats but one, by which the process that ticked counts what is left.
 fn hold<'t, 'k, R: Threads + Wait + Abort + Sync>(
     rt: &R,
     alloc: Global,
-    mut holders: Vec<Holder<'_, 'k>>,
+    mut seats: Vec<Seat<'_>>,
     mut watch: Watch<'t>,
-    ticker: Proc<'k>,
+    started: Started<'k>,
     seed: u64,
 ) {
-    let mut last = holders.pop().expect(rt, "nobody holds");
-    let jobs = jobs_of(rt, alloc, holders, &mut watch);
-    let done = run_crowd(rt, jobs, watch, ticker, seed);
-    count_units(rt, done.as_slice(), units_left(rt, &mut last), seed);
+    let Started {
+        mut roster,
+        mut proc,
+    } = started;
+    let mut last = seats.pop().expect(rt, "no seat was given");
+    let procs = forks(alloc, &mut roster, &mut proc, HOLDERS).expect(rt, "no processes");
+    let jobs = jobs_of(rt, alloc, procs, seats, &mut watch);
+    let done = run_crowd(rt, jobs, watch, &mut proc, seed);
+    let left = units_left(rt, &mut proc, &mut last);
+    count_units(rt, done.as_slice(), left, seed);
 }
 
-// All processes of a pool.
-fn holders_of<'s, 'k, R: Wait + Abort>(
-    rt: &R,
-    alloc: Global,
-    pool: &'s mut Pool,
-    started: Started<'k>,
-    count: u64,
-) -> Vec<Holder<'s, 'k>> {
-    let Started { mut roster, proc } = started;
-    pool.holders(alloc, rt, &mut roster, proc, count)
-        .ok()
-        .expect(rt, "no holders")
-}
-
-// Makes the pool and the clock of the crowd.
+// Makes the semaphore and the clock of the crowd.
 fn hold_at_a_clock<R: Threads + Wait + Abort + Sync>(
     rt: &R,
     alloc: Global,
     mut started: Started<'_>,
     seed: u64,
 ) {
-    let mut pool = pool_of(rt, alloc, &mut started.roster, OPENING, HOLDERS + 1);
+    let mut semaphore = semaphore_of(rt, alloc, &mut started.roster, OPENING, HOLDERS + 1);
     let mut clock = Clock::new(alloc, HOLDERS + 1).expect(rt, "no clock");
-    let watch = clock.first().expect(rt, "no seat at the clock");
-    let ticker = forked(rt, &mut started);
-    let holders = holders_of(rt, alloc, &mut pool, started, HOLDERS + 1);
-    hold(rt, alloc, holders, watch, ticker, seed);
+    let watch = clock.watch().expect(rt, "nobody had the first watch");
+    let seats = seats_of(rt, alloc, &mut semaphore, HOLDERS + 1);
+    hold(rt, alloc, seats, watch, started, seed);
 }
 
 #[test]
 fn no_unit_is_lost_and_none_is_given_twice(rt: HostRuntime) {
-    let OpenedKernel { kernel, start } = kernel_of(&rt, rt.alloc(), HOLDERS + 2, HOLDERS + 1);
+    let OpenedKernel { kernel, start } = kernel_of(&rt, rt.alloc(), HOLDERS + 1, HOLDERS + 1);
     hold_at_a_clock(&rt, rt.alloc(), kernel.start(start), seed_of(&rt));
 }
 
-// A pool of so many units for so many. Where memory is refused it is asked for once more.
-fn pool_of(
+// A semaphore of so many units for so many. Where memory is refused it is asked for once more.
+fn semaphore_of(
     rt: &impl Abort,
     alloc: Global,
     roster: &mut Roster<'_>,
     units: u32,
     procs: u64,
-) -> Pool {
-    let made = match Pool::new(alloc, roster, units, procs) {
-        Err(Fault::Memory) => Pool::new(alloc, roster, units, procs),
+) -> Semaphore {
+    let made = match Semaphore::new(alloc, roster, units, procs) {
+        Err(Fault::Memory) => Semaphore::new(alloc, roster, units, procs),
         made => made,
     };
-    made.expect(rt, "no pool")
+    made.expect(rt, "no semaphore")
 }
 
-// Each takes the unit, which nobody else has then, and hands it back.
-fn hold_in_turn<R: Wait + Abort>(rt: &R, holders: &mut [Holder<'_, '_>]) {
-    assert_eq!(rt; holders.len(), 2);
-    for holder in holders.iter_mut() {
-        hold_once(rt, holder);
-    }
-}
-
-fn hold_once<R: Wait + Abort>(rt: &R, holder: &mut Holder<'_, '_>) {
-    assert_eq!(rt; holder.acquire(rt), Ok(()));
-    assert!(rt; !holder.try_acquire(rt));
-    assert_eq!(rt; holder.release(rt, 1), Ok(1));
-}
-
-// Lets two hold in turn. Where there is no memory for their list, the process comes back.
-fn hold_two<'k, R: Wait + Abort>(
+fn seats_of<'s, R: Wait + Abort>(
     rt: &R,
     alloc: Global,
-    pool: &mut Pool,
-    roster: &mut Roster<'k>,
-    proc: Proc<'k>,
-) -> Option<Proc<'k>> {
-    match pool.holders(alloc, rt, roster, proc, 2) {
-        Ok(mut holders) => {
-            hold_in_turn(rt, holders.as_mut_slice());
-            None
+    semaphore: &'s mut Semaphore,
+    count: u64,
+) -> Vec<Seat<'s>> {
+    let seats = semaphore.seats(alloc, rt, count);
+    seats.expect(rt, "no seats")
+}
+
+// By each seat it takes the unit, which is not there then, and hands it back.
+fn hold_in_turn<R: Wait + Abort>(rt: &R, proc: &mut Proc<'_>, seats: &mut [Seat<'_>]) {
+    assert_eq!(rt; seats.len(), 2);
+    for seat in seats.iter_mut() {
+        assert_eq!(rt; seat.acquire(rt, proc), Ok(()));
+        assert_eq!(rt; seat.try_acquire(rt, proc), Ok(false));
+        assert_eq!(rt; seat.release(rt, proc, 1), Ok(1));
+    }
+}
+
+// Holds by two seats in turn. Says whether there was memory for their list.
+fn holds_by_two<R: Wait + Abort>(
+    rt: &R,
+    alloc: Global,
+    semaphore: &mut Semaphore,
+    proc: &mut Proc<'_>,
+) -> bool {
+    match semaphore.seats(alloc, rt, 2) {
+        Ok(mut seats) => {
+            hold_in_turn(rt, proc, seats.as_mut_slice());
+            true
         }
-        Err(Refused { proc, fault }) => {
+        Err(fault) => {
             assert_eq!(rt; fault, Fault::Memory);
-            Some(proc)
+            false
         }
     }
 }
 
-// A pool of which two hold in turn, once more where that was refused memory. What is left then.
+// A semaphore by two seats of which a process holds, once more where that was refused memory. What
+// is left then.
 fn left_of_two<R: Wait + Abort>(rt: &R, alloc: Global, started: Started<'_>) -> (u64, u64) {
-    let Started { mut roster, proc } = started;
-    let mut pool = pool_of(rt, alloc, &mut roster, 1, 2);
-    if let Some(proc) = hold_two(rt, alloc, &mut pool, &mut roster, proc) {
-        assert!(rt; hold_two(rt, alloc, &mut pool, &mut roster, proc).is_none());
+    let Started {
+        mut roster,
+        mut proc,
+    } = started;
+    let mut semaphore = semaphore_of(rt, alloc, &mut roster, 1, 2);
+    if !holds_by_two(rt, alloc, &mut semaphore, &mut proc) {
+        assert!(rt; semaphore.has_seat());
+        assert!(rt; holds_by_two(rt, alloc, &mut semaphore, &mut proc));
     }
+    assert!(rt; !semaphore.has_seat());
+    assert_eq!(rt; semaphore.seat().err(), Some(Fault::NoProc));
     roster.left()
 }
 
 // No pid, no Rendez and no seat is used up where memory is refused.
 #[test]
-fn a_pool_that_is_refused_memory_has_all_its_seats(rt: HostRuntime) {
+fn a_semaphore_that_is_refused_memory_has_all_its_seats(rt: HostRuntime) {
     let OpenedKernel { kernel, start } = kernel_of(&rt, rt.alloc(), 2, 3);
-    assert_eq!(rt; left_of_two(&rt, rt.alloc(), kernel.start(start)), (0, 1));
+    assert_eq!(rt; left_of_two(&rt, rt.alloc(), kernel.start(start)), (1, 1));
 }
 
-// A pool, all of whose processes hold: how many they are.
-fn count_of<R: Wait + Abort>(rt: &R, alloc: Global, mut started: Started<'_>, count: u64) -> u64 {
-    let mut pool = pool_of(rt, alloc, &mut started.roster, 0, count);
-    holders_of(rt, alloc, &mut pool, started, count).len() as u64
-}
-
-fn hold_all<R: Wait + Abort>(rt: &R, alloc: Global, count: u64) {
-    let OpenedKernel { kernel, start } = kernel_of(rt, alloc, count, count);
-    assert_eq!(rt; count_of(rt, alloc, kernel.start(start), count), count);
+// Refused at 0 and above the processes, with the first seat still there; then all are given, and
+// none is left.
+fn give_all<R: Wait + Abort>(rt: &R, alloc: Global, started: &mut Started<'_>, count: u64) {
+    let mut semaphore = semaphore_of(rt, alloc, &mut started.roster, 0, count);
+    assert_eq!(rt; semaphore.seats(alloc, rt, 0).err(), Some(Fault::NoProc));
+    assert_eq!(rt;
+        semaphore.seats(alloc, rt, count.saturating_add(1)).err(),
+        Some(Fault::NoProc)
+    );
+    assert!(rt; semaphore.has_seat());
+    let mut seats = seats_of(rt, alloc, &mut semaphore, count);
+    assert_eq!(rt; seats.len() as u64, count);
+    for seat in seats.iter_mut() {
+        assert_eq!(rt; seat.split(rt).err(), Some(Fault::NoProc));
+    }
 }
 
 #[test]
-fn all_processes_of_a_kernel_hold_at_each_size(rt: HostRuntime) {
+fn all_seats_are_given_at_each_size(rt: HostRuntime) {
     for count in 1..=1_024 {
-        hold_all(&rt, rt.alloc(), count);
+        let OpenedKernel { kernel, start } = kernel_of(&rt, rt.alloc(), 1, count);
+        give_all(&rt, rt.alloc(), &mut kernel.start(start), count);
     }
+}
+
+// Each call by a process of a kernel with fewer Rendez is refused, and its notes are still pending;
+// the seat then serves a process that may call.
+fn refuses_strangers<R: Wait + Abort>(
+    rt: &R,
+    alloc: Global,
+    mut own: Started<'_>,
+    mut stranger: Proc<'_>,
+) {
+    let mut semaphore = semaphore_of(rt, alloc, &mut own.roster, 1, 2);
+    let mut clock = Clock::new(alloc, 1).expect(rt, "no clock");
+    let mut watch = clock.watch().expect(rt, "nobody had the first watch");
+    let mut seat = semaphore.seat().expect(rt, "nobody had the first seat");
+    let alarm = NoteSet::of(Note::Alarm);
+    assert_eq!(rt; stranger.postnote(Pid(0), alarm), Ok(()));
+    assert_eq!(rt; seat.acquire(rt, &mut stranger), Err(Fault::NoRendez));
+    assert_eq!(rt; seat.try_acquire(rt, &mut stranger), Err(Fault::NoRendez));
+    assert_eq!(rt;
+        seat.acquire_within(rt, &mut stranger, &mut watch, 0, 1),
+        Err(Fault::NoRendez)
+    );
+    assert_eq!(rt; seat.release(rt, &mut stranger, 1), Err(Fault::NoRendez));
+    assert_eq!(rt; stranger.notes(), alarm);
+    assert_eq!(rt; seat.acquire(rt, &mut own.proc), Ok(()));
+    assert_eq!(rt; seat.release(rt, &mut own.proc, 1), Ok(1));
+}
+
+#[test]
+fn a_process_of_another_kernel_calls_by_no_seat(rt: HostRuntime) {
+    let OpenedKernel { kernel, start } = kernel_of(&rt, rt.alloc(), 1, 2);
+    let OpenedKernel {
+        kernel: other,
+        start: others,
+    } = kernel_of(&rt, rt.alloc(), 1, 1);
+    let stranger = other.start(others).proc;
+    refuses_strangers(&rt, rt.alloc(), kernel.start(start), stranger);
 }
 
 /// A process, a semaphore of one unit, and timers.

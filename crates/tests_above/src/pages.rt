@@ -32,7 +32,7 @@ fn sleep_page_until_a_moment(rt: HostRuntime) {
     let Ok(mut clock) = Clock::new(rt.alloc(), 1) else {
         panic!(rt; "no clock")
     };
-    let Ok(mut watch) = clock.first() else {
+    let Ok(mut watch) = clock.watch() else {
         panic!(rt; "nobody has its first seat")
     };
     assert!(rt; proc.wakeup(READY, 1).is_ok());

@@ -8,14 +8,13 @@ ghost use Rattle.tag_space.specs.Members.{number_of, party_of, seen_of};
 ghost use Rattle.tag_space.specs.Outcome.{Exchange, calls_by};
 
 use crate::kernels::kernel_of;
-use plan9::{
-    Fault, Flags, Kernel, Member, OpenedKernel, OpenedSpace, Proc, Start, Started, Tag, TagSpace,
-};
+use plan9::{Fault, Flags, Kernel, OpenedKernel, Proc, Start, Started, Tag};
 use std::alloc::Global;
 use std::marker::Sync;
 use std::process::Abort;
 use std::sync::Wait;
 use std::thread::{Threads, join, join_mut};
+use tag_space::{Member, Opened as OpenedSpace, TagSpace};
 
 /// The tag under which they meet.
 const TAG: Tag = Tag(7);

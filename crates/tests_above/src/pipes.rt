@@ -7,7 +7,7 @@ use crate::dice::{Dice, seed_of};
 use crate::kernels::{forked, kernel_of, push};
 use plan9::{
     Ends, Fault, Note, NoteSet, OpenedKernel, OpenedPipe, Pid, Pipe, Proc, ReadAnswer, ReadEnd,
-    Reader, Roster, Started, WriteEnd, Writer,
+    Roster, Started, WriteEnd,
 };
 use std::alloc::Global;
 use std::process::Abort;
@@ -27,6 +27,20 @@ pub fn pipe_of<'p>(
     ensures start { IsPipeStart result.pipe result.start }
 {
     Pipe::new(alloc, roster, limit, writers).expect(rt, "no pipe")
+}
+
+/// A process with a read end.
+#[derive(Drop)]
+pub struct Reader<'p, 'k> {
+    pub end: ReadEnd<'p>,
+    pub proc: Proc<'k>,
+}
+
+/// A process with a write end.
+#[derive(Drop)]
+pub struct Writer<'p, 'k> {
+    pub end: WriteEnd<'p>,
+    pub proc: Proc<'k>,
 }
 
 /// What is to be done.
@@ -160,13 +174,14 @@ fn reads<R: Wait>(
     reader: &mut Reader<'_, '_>,
     plan: Plan,
 ) -> Tally {
+    let Reader { end, proc } = reader;
     let mut tally = Tally::new();
     let mut block = Vec::new(alloc);
     for _ in rt.forever() {
         if tally.read == plan.reader_hangs {
-            reader.hangup();
+            end.hangup(proc);
         }
-        match reader.read_block(rt, &mut block) {
+        match end.read_block(rt, proc, &mut block) {
             Ok(ReadAnswer::Got(_)) => tally.count(block.as_slice(), plan.size),
             Ok(ReadAnswer::End) => break,
             Err(Fault::Interrupted(_)) => tally.count_note(),
@@ -176,7 +191,7 @@ fn reads<R: Wait>(
             }
         }
     }
-    reader.hangup();
+    end.hangup(proc);
     board.read.store(true, SeqCst);
     tally
 }
@@ -190,7 +205,9 @@ fn write_next<R: Wait>(
     size: usize,
 ) -> Result<u64, Fault> {
     let bytes = vec![in alloc; byte_of(writer.end.writer(), number); size]?;
-    writer.write(alloc, rt, bytes.as_slice())
+    writer
+        .end
+        .write(alloc, rt, &mut writer.proc, bytes.as_slice())
 }
 
 // Writes all its messages, up to a hangup, with rising numbers. Says whether it was hung up.
@@ -208,7 +225,7 @@ fn write_all<R: Wait>(
             break;
         }
         if number == 0 && tally.wrote == plan.writer_hangs {
-            writer.hangup();
+            writer.end.hangup(&mut writer.proc);
         }
         match write_next(rt, alloc, writer, tally.wrote, plan.size) {
             Ok(next) => {
@@ -239,7 +256,7 @@ fn writes<R: Wait>(
         tally.wrote_of[(writer.end.writer() % 64) as usize] = tally.wrote;
     }
     if board.wrote.fetch_add(1, SeqCst).saturating_add(1) >= plan.writers {
-        writer.hangup();
+        writer.end.hangup(&mut writer.proc);
     }
     tally
 }
@@ -278,7 +295,7 @@ fn push_writers<'p, 'k, R: Abort>(
 ) {
     for end in ends {
         let proc = forked(rt, started);
-        push(rt, jobs, Job::Write(Writer::new(end, proc)));
+        push(rt, jobs, Job::Write(Writer { end, proc }));
     }
 }
 
@@ -292,7 +309,7 @@ fn jobs_at<'p, 'k, R: Abort>(
 ) -> Vec<Job<'p, 'k>> {
     let mut jobs = Vec::new(alloc);
     let proc = forked(rt, started);
-    push(rt, &mut jobs, Job::Read(Reader::new(read, proc)));
+    push(rt, &mut jobs, Job::Read(Reader { end: read, proc }));
     push_writers(rt, &mut jobs, started, writes);
     jobs
 }

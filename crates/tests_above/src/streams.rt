@@ -1,11 +1,11 @@
-//! The example of the manual page of pipes, line for line; what std's calls make of a reader and a
-//! writer; and two readers of one end, on threads of their own.
+//! The example of the manual page of pipes, line for line; what std's calls make of the two ends;
+//! and two readers of one end, on threads of their own.
 use crate::kernels::{forked, kernel_of};
-use crate::pipes::pipe_of;
+use crate::pipes::{Writer, pipe_of};
 use plan9::limits::ATOMIC_SIZE;
 use plan9::{
-    Ends, Fault, Note, NoteSet, OpenedKernel, OpenedPipe, Parts, ReadAnswer, ReadEnd, ReadStream,
-    Reader, Roster, Shared, Sharer, Started, WriteStream, Writer,
+    Ends, Fault, Note, NoteSet, OpenedKernel, OpenedPipe, Parts, Pid, Proc, ReadAnswer, ReadEnd,
+    ReadStream, Roster, Share, SharedEnd, Started, WriteStream,
 };
 use std::alloc::Global;
 use std::io::{ErrorKind, Read, Write};
@@ -20,8 +20,8 @@ fn end_a_read_by_a_note<R: Wait + Abort>(
     to: &mut WriteStream<'_, '_, '_, R>,
 ) {
     let alarm = NoteSet::of(Note::Alarm);
-    let reader = from.reader.proc.pid();
-    assert_eq!(rt; to.writer.proc.postnote(reader, alarm), Ok(()));
+    let reader = from.proc.pid();
+    assert_eq!(rt; to.proc.postnote(reader, alarm), Ok(()));
     let Err(error) = from.read(&mut [0; 4]) else {
         panic!(rt; "a note ends the wait")
     };
@@ -43,9 +43,9 @@ fn read_and_write_no_bytes<R: Wait + Abort>(
 // Seven bytes in two writes, and an empty one between them, which is no end.
 fn write_all_of_it<R: Wait + Abort>(rt: &R, alloc: Global, to: &mut WriteStream<'_, '_, '_, R>) {
     assert!(rt; to.write_all(b"defg").is_ok());
-    assert_eq!(rt; to.writer.write(alloc, rt, &[]), Ok(2));
+    assert_eq!(rt; to.end.write(alloc, rt, &mut to.proc, &[]), Ok(2));
     assert!(rt; matches!(to.write(b"abc"), Ok(3)));
-    to.writer.hangup();
+    to.end.hangup(&mut to.proc);
 }
 
 // All that was written is read to the end.
@@ -87,7 +87,7 @@ fn pair_of<'p, 'k>(rt: &impl Abort, started: &mut Started<'k>, ends: Ends<'p>) -
     match writes.pop() {
         Some(end) => Pair {
             reader,
-            writer: Writer::new(end, proc),
+            writer: Writer { end, proc },
         },
         None => panic!(rt; "an end has a writer"),
     }
@@ -133,8 +133,9 @@ fn std_reads_and_writes_a_pipe(rt: HostRuntime) {
     let OpenedPipe { pipe, start } = pipe_of(&rt, alloc, &mut started.roster, 4, 1);
     let Pair { reader, writer } = pair_of(&rt, &mut started, pipe.ends(start));
     let Started { roster: _, proc } = started;
-    let mut from = ReadStream::new(&rt, Reader::new(reader, proc));
-    let mut to = WriteStream::new(alloc, &rt, writer);
+    let mut from = ReadStream::new(&rt, reader, proc);
+    let Writer { end, proc } = writer;
+    let mut to = WriteStream::new(alloc, &rt, end, proc);
     read_and_write_no_bytes(&rt, &mut from, &mut to);
     end_a_read_by_a_note(&rt, &mut from, &mut to);
     write_all_of_it(&rt, alloc, &mut to);
@@ -153,8 +154,8 @@ fn write_more_than_one_takes<R: Wait + Abort>(
         return;
     };
     assert!(rt; to.write_all(bytes.as_slice()).is_ok());
-    assert_eq!(rt; to.writer.write(alloc, rt, &[]), Ok(3));
-    to.writer.hangup();
+    assert_eq!(rt; to.end.write(alloc, rt, &mut to.proc, &[]), Ok(3));
+    to.end.hangup(&mut to.proc);
     let mut buffer = [0; 8];
     let mut count = 0usize;
     for _ in rt.forever() {
@@ -175,17 +176,29 @@ fn a_write_of_all_is_as_many_writes_as_it_takes(rt: HostRuntime) {
     let OpenedPipe { pipe, start } = pipe_of(&rt, alloc, &mut started.roster, 4, 1);
     let Pair { reader, writer } = pair_of(&rt, &mut started, pipe.ends(start));
     let Started { roster: _, proc } = started;
-    let mut from = ReadStream::new(&rt, Reader::new(reader, proc));
-    let mut to = WriteStream::new(alloc, &rt, writer);
+    let mut from = ReadStream::new(&rt, reader, proc);
+    let Writer { end, proc } = writer;
+    let mut to = WriteStream::new(alloc, &rt, end, proc);
     write_more_than_one_takes(&rt, alloc, &mut from, &mut to);
 }
 
+/// A process with a share of a read end.
+#[derive(Drop)]
+struct Sharer<'s, 'p, 'k> {
+    share: Share<'s, 'p>,
+    proc: Proc<'k>,
+}
+
 // Reads to the end, and counts what comes: each read is one whole write of two bytes.
-fn count_reads<R: Wait + Abort>(rt: &R, mut sharer: Sharer<'_, '_, '_>) -> u64 {
+fn count_reads<R: Wait + Abort>(rt: &R, sharer: Sharer<'_, '_, '_>) -> u64 {
+    let Sharer {
+        mut share,
+        mut proc,
+    } = sharer;
     let mut buffer = [0; 4];
     let mut count = 0u64;
     for _ in rt.forever() {
-        match sharer.read(rt, &mut buffer) {
+        match share.read(rt, &mut proc, &mut buffer) {
             Ok(ReadAnswer::End) => break,
             answer => assert_eq!(rt; answer, Ok(ReadAnswer::Got(2))),
         }
@@ -195,11 +208,12 @@ fn count_reads<R: Wait + Abort>(rt: &R, mut sharer: Sharer<'_, '_, '_>) -> u64 {
 }
 
 // Writes a hundred pairs of bytes, and hangs up.
-fn write_pairs<R: Wait + Abort>(rt: &R, alloc: Global, mut writer: Writer<'_, '_>) {
+fn write_pairs<R: Wait + Abort>(rt: &R, alloc: Global, writer: Writer<'_, '_>) {
+    let Writer { mut end, mut proc } = writer;
     for _ in 0..100 {
-        assert!(rt; writer.write(alloc, rt, b"ab").is_ok());
+        assert!(rt; end.write(alloc, rt, &mut proc, b"ab").is_ok());
     }
-    writer.hangup();
+    end.hangup(&mut proc);
 }
 
 // Each reads on a thread of its own, until both have come to the end.
@@ -212,30 +226,23 @@ fn read_at_once<'s, 'p, 'k, R: Threads + Wait + Abort + Sync>(
     first.saturating_add(second)
 }
 
-fn sharer_beside<'s, 'p, 'k, R: Wait + Abort>(
-    rt: &R,
-    roster: &mut Roster<'k>,
-    sharer: &mut Sharer<'s, 'p, 'k>,
-) -> Sharer<'s, 'p, 'k> {
-    match sharer.fork(rt, roster) {
-        Ok(other) => other,
-        Err(_) => panic!(rt; "two may share"),
-    }
-}
-
 // Both read while a third writes: how many reads there were.
 fn read_while_one_writes<'p, 'k, R: Threads + Wait + Abort + Sync>(
     rt: &R,
     alloc: Global,
-    shared: &mut Shared<'p>,
-    started: Started<'k>,
+    shared: &mut SharedEnd<'p>,
+    mut started: Started<'k>,
     writer: Writer<'p, 'k>,
 ) -> u64 {
-    let Started { mut roster, proc } = started;
-    let Ok(mut one) = shared.first(proc) else {
-        panic!(rt; "nobody was the first")
+    let mut share = shared.share().expect(rt, "nobody had the first share");
+    let other = Sharer {
+        share: share.split(rt).expect(rt, "two may share"),
+        proc: forked(rt, &mut started),
     };
-    let other = sharer_beside(rt, &mut roster, &mut one);
+    let one = Sharer {
+        share,
+        proc: started.proc,
+    };
     let (count, ()) = join(
         rt,
         || read_at_once(rt, one, other),
@@ -249,8 +256,8 @@ fn shared_of<'p>(
     alloc: Global,
     roster: &mut Roster<'_>,
     end: ReadEnd<'p>,
-) -> Shared<'p> {
-    match Shared::new(alloc, roster, end, 2) {
+) -> SharedEnd<'p> {
+    match SharedEnd::new(alloc, roster, end, 2) {
         Ok(shared) => shared,
         Err(_) => panic!(rt; "no turns"),
     }
@@ -267,4 +274,53 @@ fn two_read_in_turn_and_tear_no_write(rt: HostRuntime) {
     let mut shared = shared_of(&rt, alloc, &mut started.roster, reader);
     let count = read_while_one_writes(&rt, alloc, &mut shared, started, writer);
     assert!(rt; count == 100 && shared.into_end().is_some());
+}
+
+// Each call by a process of a kernel with fewer Rendez is refused, and its notes are still pending;
+// the share then serves a process that may read.
+fn refuses_strangers<R: Wait + Abort>(
+    rt: &R,
+    alloc: Global,
+    shared: &mut SharedEnd<'_>,
+    mut proc: Proc<'_>,
+    mut stranger: Proc<'_>,
+) {
+    let mut share = shared.share().expect(rt, "nobody had the first share");
+    let alarm = NoteSet::of(Note::Alarm);
+    let mut buffer = [7; 2];
+    let mut block = Vec::new(alloc);
+    assert_eq!(rt; stranger.postnote(Pid(0), alarm), Ok(()));
+    let refused = Err(Fault::NoRendez);
+    assert_eq!(rt; share.read(rt, &mut stranger, &mut buffer), refused);
+    assert_eq!(rt; share.read_block(rt, &mut stranger, &mut block), refused);
+    assert_eq!(rt;
+        share.try_read(rt, &mut stranger, &mut buffer),
+        Err(Fault::NoRendez)
+    );
+    assert_eq!(rt; (stranger.notes(), buffer), (alarm, [7; 2]));
+    assert_eq!(rt; proc.postnote(Pid(0), alarm), Ok(()));
+    assert_eq!(rt;
+        share.read(rt, &mut proc, &mut buffer),
+        Err(Fault::Interrupted(alarm))
+    );
+    drop(share);
+    assert!(rt; !shared.has_share());
+    assert_eq!(rt; shared.share().err(), Some(Fault::NoProc));
+}
+
+#[test]
+fn a_process_of_another_kernel_reads_by_no_share(rt: HostRuntime) {
+    let alloc = rt.alloc();
+    let OpenedKernel { kernel, start } = kernel_of(&rt, alloc, 2, 8);
+    let OpenedKernel {
+        kernel: other,
+        start: others,
+    } = kernel_of(&rt, alloc, 1, 4);
+    let stranger = other.start(others).proc;
+    let mut started = kernel.start(start);
+    let OpenedPipe { pipe, start } = pipe_of(&rt, alloc, &mut started.roster, 4, 1);
+    let Pair { reader, writer: _ } = pair_of(&rt, &mut started, pipe.ends(start));
+    let mut shared = shared_of(&rt, alloc, &mut started.roster, reader);
+    refuses_strangers(&rt, alloc, &mut shared, started.proc, stranger);
+    assert!(rt; shared.into_end().is_some());
 }

@@ -1,9 +1,9 @@
-//! A ticker that a note ends, real time by a clock of the test's own, children on threads, and
+//! Ticks that a note ends, real time by a clock of the test's own, children on threads, and
 //! faults in words.
 use crate::kernels::{forked, kernel_of};
 use plan9::{
     Beat, Clock, Fault, FaultText, Note, NoteSet, OpenedKernel, Pid, Proc, RealTime, Started,
-    TickSource, Ticker, Watch, fork,
+    TickSource, Watch, fork, forks,
 };
 use std::alloc::Global;
 use std::io::{self, Error, ErrorKind};
@@ -33,24 +33,29 @@ impl<'k> TickSource for Third<'k> {
 }
 
 // It ends with the note, at its third moment.
-fn tick_to_a_note<R: Wait + Abort>(rt: &R, watch: Watch<'_>, proc: Proc<'_>, child: Proc<'_>) {
+fn tick_to_a_note<R: Wait + Abort>(
+    rt: &R,
+    watch: &mut Watch<'_>,
+    proc: &mut Proc<'_>,
+    child: Proc<'_>,
+) {
     let mut time = Third {
         to: proc.pid(),
         proc: child,
         moments: 0,
     };
-    let came = Ticker { watch, proc }.run(rt, &mut time);
+    let came = watch.run(rt, proc, &mut time);
     assert_eq!(rt; (came, time.moments), (NoteSet::of(Note::Interrupt), 3));
 }
 
 #[test]
-fn a_note_ends_a_ticker(rt: HostRuntime) {
+fn a_note_ends_the_ticks(rt: HostRuntime) {
     let OpenedKernel { kernel, start } = kernel_of(&rt, rt.alloc(), 2, 1);
     let mut started = kernel.start(start);
     let child = forked(&rt, &mut started);
     let mut clock = Clock::new(rt.alloc(), 1).expect(&rt, "no clock");
-    let watch = clock.first().expect(&rt, "no seat at the clock");
-    tick_to_a_note(&rt, watch, started.proc, child);
+    let mut watch = clock.watch().expect(&rt, "nobody had the first watch");
+    tick_to_a_note(&rt, &mut watch, &mut started.proc, child);
 }
 
 #[test]
@@ -204,6 +209,83 @@ fn a_child_runs_on_a_thread(rt: HostRuntime) {
     let mut started = kernel.start(start);
     assert_eq!(rt; next_pid(&rt, &mut started), Some(1));
     assert!(rt; is_last(&mut started));
+}
+
+// So many children and a child more: their pids, and how many pids are left. Too many are refused,
+// and use none up; where memory is refused it is asked for once more.
+fn children_of(rt: &impl Abort, alloc: Global, started: &mut Started<'_>, count: u64) {
+    let Started { roster, proc } = started;
+    let before = roster.left();
+    let made = match forks(alloc, roster, proc, count) {
+        Err(Fault::Memory) => {
+            assert_eq!(rt; roster.left(), before);
+            forks(alloc, roster, proc, count)
+        }
+        made => made,
+    };
+    let children = made.expect(rt, "so many pids are left");
+    assert_eq!(rt; children.len() as u64, count);
+    for (at, child) in children.iter().enumerate() {
+        assert_eq!(rt; child.pid(), Pid(at as u64 + 1));
+    }
+    assert_eq!(rt; roster.left(), (before.0 - count, before.1));
+    assert_eq!(rt;
+        forks(alloc, roster, proc, before.0 - count + 1).err(),
+        Some(Fault::NoProc)
+    );
+    assert_eq!(rt; roster.left(), (before.0 - count, before.1));
+}
+
+#[test]
+fn many_children_are_made_or_none(rt: HostRuntime) {
+    for count in 0..5 {
+        let OpenedKernel { kernel, start } = kernel_of(&rt, rt.alloc(), 6, 1);
+        children_of(&rt, rt.alloc(), &mut kernel.start(start), count);
+    }
+}
+
+// Refused at 0 and above the processes, and where memory is refused, with the first watch still
+// there; then all are given, and none is left.
+fn give_all<R: Wait + Abort>(rt: &R, alloc: Global, clock: &mut Clock, count: u64) {
+    assert_eq!(rt; clock.watches(alloc, rt, 0).err(), Some(Fault::NoProc));
+    assert_eq!(rt;
+        clock.watches(alloc, rt, count.saturating_add(1)).err(),
+        Some(Fault::NoProc)
+    );
+    assert!(rt; clock.has_watch());
+    let mut watches = match clock.watches(alloc, rt, count) {
+        Ok(watches) => watches,
+        Err(fault) => {
+            assert_eq!(rt; fault, Fault::Memory);
+            return;
+        }
+    };
+    assert_eq!(rt; watches.len() as u64, count);
+    for watch in watches.iter_mut() {
+        assert_eq!(rt; watch.split(rt).err(), Some(Fault::NoProc));
+    }
+}
+
+// Gives all, once more where memory was refused.
+fn give_all_of<R: Wait + Abort>(rt: &R, alloc: Global, mut clock: Clock, count: u64) {
+    give_all(rt, alloc, &mut clock, count);
+    if clock.has_watch() {
+        give_all(rt, alloc, &mut clock, count);
+    }
+    assert!(rt; !clock.has_watch());
+    assert_eq!(rt; clock.watch().err(), Some(Fault::NoProc));
+    assert_eq!(rt; clock.watches(alloc, rt, 1).err(), Some(Fault::NoProc));
+}
+
+#[test]
+fn all_watches_are_given_or_none(rt: HostRuntime) {
+    for count in [1, 2, 5, 1_024] {
+        let clock = match Clock::new(rt.alloc(), count) {
+            Err(Fault::Memory) => Clock::new(rt.alloc(), count),
+            made => made,
+        };
+        give_all_of(&rt, rt.alloc(), clock.expect(&rt, "no clock"), count);
+    }
 }
 
 // Where no memory is refused, the fault has this text.

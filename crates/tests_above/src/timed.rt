@@ -6,10 +6,10 @@ ghost use Rattle.std.specs.Prelude.{⊤};
 
 use crate::dice::{Dice, seed_of};
 use crate::kernels::{forked, kernel_of, push};
-use crate::pipes::pipe_of;
+use crate::pipes::{Reader, Writer, pipe_of};
 use plan9::{
-    Clock, Ends, Fault, Note, NoteSet, OpenedKernel, OpenedPipe, Pid, Proc, ReadAnswer, Reader,
-    RendezId, Started, Watch, Writer,
+    Clock, Ends, Fault, Note, NoteSet, OpenedKernel, OpenedPipe, Pid, Proc, ReadAnswer, ReadCalls,
+    RendezId, Started, Watch, WriteCalls,
 };
 use std::alloc::Global;
 use std::process::Abort;
@@ -118,7 +118,7 @@ impl<'p, 'k> Role<'p, 'k> {
     }
 }
 
-/// A process of the crowd, with its seat at the clock.
+/// A process of the crowd, with its watch.
 #[derive(Drop)]
 struct Job<'p, 't, 'k> {
     role: Role<'p, 'k>,
@@ -188,7 +188,11 @@ fn writes<R: Wait>(
             .wrapping_add(writer.end.writer());
         let ms = dice.moments();
         let now = board.now.load(SeqCst);
-        let came = writer.write_within(alloc, rt, watch, now, ms, &message.to_be_bytes());
+        let bytes = message.to_be_bytes();
+        let proc = &mut writer.proc;
+        let came = writer
+            .end
+            .write_within(alloc, rt, proc, watch, now, ms, &bytes);
         work.count(board, came.map(|_| ()));
     }
     hang_up(rt, writer, board);
@@ -199,7 +203,7 @@ fn writes<R: Wait>(
 fn hang_up<R: Wait>(rt: &R, writer: &mut Writer<'_, '_>, board: &Board) {
     if board.written.fetch_add(1, SeqCst).saturating_add(1) >= WRITERS {
         board.awaits(rt, &board.hindered, WRITERS + 1);
-        writer.hangup();
+        writer.end.hangup(&mut writer.proc);
     }
 }
 
@@ -259,7 +263,8 @@ fn read_some<R: Wait>(
     let room = if dice.roll(2) == 0 { 3 } else { SIZE };
     let ms = dice.moments();
     let now = board.now.load(SeqCst);
-    let came = reader.read_within(rt, watch, now, ms, &mut buffer[..room]);
+    let Reader { end, proc } = reader;
+    let came = end.read_within(rt, proc, watch, now, ms, &mut buffer[..room]);
     match came {
         Ok(ReadAnswer::Got(count)) => {
             board.expect(count > 0 && account.add(&buffer[..count.min(SIZE)]));
@@ -429,7 +434,7 @@ fn join_in<'p, 't, 'k, R: Wait + Abort>(
     watch: &mut Watch<'t>,
     role: Role<'p, 'k>,
 ) {
-    let watch = watch.split(rt).expect(rt, "no seat at the clock");
+    let watch = watch.split(rt).expect(rt, "no watch is left");
     let number = jobs.len() as u64;
     let job = Job {
         role,
@@ -450,10 +455,11 @@ fn talkers_of<'p, 't, 'k, R: Wait + Abort>(
     let mut jobs = Vec::new(alloc);
     let read = ends.first.parts().read;
     for end in ends.second.parts().writes {
-        let role = Role::Write(Writer::new(end, forked(rt, started)));
-        join_in(rt, &mut jobs, watch, role);
+        let proc = forked(rt, started);
+        join_in(rt, &mut jobs, watch, Role::Write(Writer { end, proc }));
     }
-    let role = Role::Read(Reader::new(read, forked(rt, started)));
+    let proc = forked(rt, started);
+    let role = Role::Read(Reader { end: read, proc });
     join_in(rt, &mut jobs, watch, role);
     jobs
 }
@@ -494,7 +500,7 @@ fn talk<R: Threads + Wait + Abort + Sync>(
     seed: u64,
 ) {
     let mut clock = Clock::new(alloc, WRITERS + 2).expect(rt, "no clock");
-    let mut watch = clock.first().expect(rt, "no seat at the clock");
+    let mut watch = clock.watch().expect(rt, "nobody had the first watch");
     let jobs = talkers_of(rt, alloc, &mut started, ends, &mut watch);
     let board = Board::new(seed, 2 * WRITERS + 2);
     run_well(rt, alloc, jobs, started.proc, watch, &board);
@@ -517,7 +523,7 @@ fn sleep_all<R: Threads + Wait + Abort + Sync>(
     seed: u64,
 ) {
     let mut clock = Clock::new(alloc, SLEEPERS + 1).expect(rt, "no clock");
-    let mut watch = clock.first().expect(rt, "no seat at the clock");
+    let mut watch = clock.watch().expect(rt, "nobody had the first watch");
     let jobs = sleepers_of(rt, alloc, &mut started, &mut watch);
     let board = Board::new(seed, 0);
     run_well(rt, alloc, jobs, started.proc, watch, &board);

@@ -9,13 +9,13 @@ use Rattle.sync_base.specs.declared.ids.Pid.{Pid}
 use Rattle.sync_base.specs.declared.note.Note.TheVariants.{Alarm, Expired}
 use Rattle.sync_base.specs.NoteSet.{holds, only}
 use Rattle.timer_list.specs.declared.timer_object.TimerCall.{TimerCall}
-use Rattle.timer_list.specs.declared.timer_object.TimerCall.TheVariants.{Expire}
+use Rattle.timer_list.specs.declared.timer_object.TimerCall.TheVariants.{Add, Cancel, Expire}
 use Rattle.timer_list.specs.declared.timer_object.TimerReply.{TimerReply}
 use Rattle.timer_list.specs.declared.timer_object.TimerReply.TheVariants as timers
 use Rattle.timer_list.specs.declared.timers.Timers.{Timers}
 use Rattle.timer_list.specs.declared.timers.TimerSeat.{TimerSeat}
-use Rattle.timer_list.specs.Asking.{AsksTimers, cancel_reply, expire_reply, IsTimed}
-use Rattle.timer_list.specs.Seats.{IsSeatAtTimers}
+use Rattle.timer_list.specs.Asking.{AsksTimers, IsMarked, cancel_reply, expire_reply, IsTimed}
+use Rattle.timer_list.specs.Seats.{IsSeatAtTimers, cancelled_at, set_at}
 use Rattle.timer_list.specs.Ticking.{Expires, ExpiresOneMore, FindsNone, Tells, Ticks}
 use Rattle.timer_list.specs.TimerHistory.{TimerEntry}
 use Rattle.timer_list.specs.Timers.{may_add, timer_of}
@@ -28,6 +28,33 @@ use Rattle.sleep_core.specs.History.Effect.{Left, Drained}
 use Rattle.sleep_core.specs.Promises.{pending}
 use Rattle.sleep_core.specs.Runs.{Entry, own, kept}
 use Rattle.waiting.specs.Waiting.{Point}
+
+-- ---- what a seat notes of its process
+
+module _ (process : Process) (before after : TimerSeat) (pid : Pid) (seat moment : ℕ) where
+  sets_it_for_another_process : set_at after ≢ Some process
+      → ¬ IsMarked (Add seat pid moment) process before after
+  sets_it_for_another_process other marked = other marked.0
+
+  cancels_as_it_sets : cancelled_at after ≢ cancelled_at before
+      → ¬ IsMarked (Add seat pid moment) process before after
+  cancels_as_it_sets other marked = other marked.1
+
+  sets_as_it_cancels : set_at after ≢ set_at before
+      → ¬ IsMarked (Cancel seat) process before after
+  sets_as_it_cancels other marked = other marked.0
+
+  cancels_it_for_another_process : cancelled_at after ≢ Some process
+      → ¬ IsMarked (Cancel seat) process before after
+  cancels_it_for_another_process other marked = other marked.1
+
+  sets_as_it_ticks : set_at after ≢ set_at before
+      → ¬ IsMarked (Expire moment) process before after
+  sets_as_it_ticks other marked = other marked.0
+
+  cancels_as_it_ticks : cancelled_at after ≢ cancelled_at before
+      → ¬ IsMarked (Expire moment) process before after
+  cancels_as_it_ticks other marked = other marked.1
 
 -- ---- each request is one entry more
 

@@ -1,6 +1,6 @@
 -- Calls with a deadline that did what none may do, each against one row.
 use Rattle.std.proofs.Common.{◌≡◌, ◌≢◌, ℕ, Bool, true, false, Some, None, Result, Ok, Err, inl}
-use Rattle.std.proofs.Common.{inr, refl, sym, ap, ◌∙◌, arith, length}
+use Rattle.std.proofs.Common.{inr, refl, sym, ap, ◌∙◌, ◌<◌, arith, length, unwrap_or}
 use Rattle.kernel_lock.specs.Seats.{number_of, opening_of, seen_of}
 use Rattle.rendez_words.specs.Process.{Process}
 use Rattle.rendez_words.specs.Steps.{notes}
@@ -12,10 +12,13 @@ use Rattle.sync_base.specs.declared.note.NoteSet.{NoteSet}
 use Rattle.sync_base.specs.NoteSet.{no_notes, joined, only, holds}
 use Rattle.timer_list.specs.declared.limits.TheConstants.{LAST_THRESHOLD}
 use Rattle.timer_list.specs.declared.timers.Timers.{Timers}
+use Rattle.timer_list.specs.declared.timers.TimerSeat.{TimerSeat}
 use Rattle.timer_list.specs.Definitions.{timer_definition}
+use Rattle.timer_list.specs.Seats.{cancelled_at, set_at}
 use Rattle.timer_list.specs.TimerHistory.{WasTaken}
 use Rattle.timer_list.specs.Timing.{AwaitsTick, Awaiting, BegunAtOnce}
 use Rattle.timer_list.specs.Timing.{IsEndedByNotes, Keeps, Looks, LooksForTick, PutsBackAny}
+use Rattle.timer_list.specs.Timing.{Stood, StoodMeanwhile, TimedThroughout}
 use Rattle.timer_list.specs.Timing.{TimedPoint, TimedCall, TimedWait, notes_in, notes_of}
 use Rattle.timer_list.specs.Timing.{without_expired}
 use Rattle.timer_list.specs.Sleeping.{sleeping}
@@ -144,6 +147,49 @@ module _ {Seat : Type 0} (promise : Promise Seat Unit) (rendez : RendezId) (watc
       → ¬ WasTaken (opening_of timer_definition watch.lock) (number_of before.timer.seat)
       moment (seen_of after.timer.seat) → ⊥
   times_out_too_early waits is none = none (waits.taken is)
+
+  -- it sleeps before its timer is set: the process has gone on since it began to wait
+  sleeps_before_its_timer : (waits : TimedWait promise rendez watch moment before answer after)
+      → set_at after.timer ≡ Some waits.process
+      → steps_of waits.first.at.process < steps_of waits.process
+      → ¬ StoodMeanwhile promise rendez watch moment before answer after (inr waits)
+  sleeps_before_its_timer waits late fewer stood =
+      let steps = ap (λ p. steps_of (unwrap_or p waits.process)) (sym late ∙ stood.set) in
+      omega (arith, fewer, steps)
+
+  -- it sleeps on once its timer is cancelled: the process has gone on since
+  sleeps_without_its_timer : (waits : TimedWait promise rendez watch moment before answer after)
+      (between : Process) → cancelled_at after.timer ≡ Some between
+      → steps_of between < steps_of waits.process
+      → ¬ StoodMeanwhile promise rendez watch moment before answer after (inr waits)
+  sleeps_without_its_timer waits between early fewer stood =
+      let steps = ap (λ p. steps_of (unwrap_or p between)) (sym early ∙ stood.cancelled) in
+      omega (arith, fewer, steps)
+
+  -- it is a call until that moment, and its timer stood meanwhile
+  with_a_timer_and_no_call : ¬ TimedCall promise rendez watch moment before answer after
+      → ¬ TimedThroughout promise rendez watch moment before answer after
+  with_a_timer_and_no_call none through = none through.call
+
+  its_timer_stood : (through : TimedThroughout promise rendez watch moment before answer after)
+      → StoodMeanwhile promise rendez watch moment before answer after through.call
+  its_timer_stood through = through.stood
+
+  -- who is answered at once needs no timer
+  at_once_without_a_timer : (begun : BegunAtOnce promise rendez watch moment before answer after)
+      → TimedThroughout promise rendez watch moment before answer after
+  at_once_without_a_timer begun = record { call = inl begun; stood = tt }
+
+-- a timer that was never set, or is not cancelled, stood while nobody slept
+never_set : (timer : TimerSeat) (there here : Process) → set_at timer ≡ None
+    → ¬ Stood timer there here
+never_set timer there here none stood =
+    let clash : None ≡ Some there = sym none ∙ stood.set in cc
+
+never_cancelled : (timer : TimerSeat) (there here : Process) → cancelled_at timer ≡ None
+    → ¬ Stood timer there here
+never_cancelled timer there here none stood =
+    let clash : None ≡ Some here = sym none ∙ stood.cancelled in cc
 
 -- ---- a sleep as a call
 

@@ -2,14 +2,16 @@
 use Rattle.std.specs.Prelude.{◌≡◌, ℕ, ◌<◌, Bool, true, false, List, length, not, Option, Some, None}
 use Rattle.kernel_lock.specs.Calls.{Serves}
 use Rattle.kernel_lock.specs.Seats.{number_of, view_of}
+use Rattle.rendez_words.specs.Process.{Process}
 use Rattle.sync_base.specs.declared.ids.Pid.{Pid}
 use Rattle.timer_list.specs.declared.timer_object.Timer.{Timer}
 use Rattle.timer_list.specs.declared.timer_object.TimerCall.{TimerCall}
+use Rattle.timer_list.specs.declared.timer_object.TimerCall.TheVariants.{Add, Expire, Cancel}
 use Rattle.timer_list.specs.declared.timer_object.TimerReply.{TimerReply}
 use Rattle.timer_list.specs.declared.timer_object.TimerReply.TheVariants as told
 use Rattle.timer_list.specs.declared.timers.Timers.{Timers}
 use Rattle.timer_list.specs.declared.timers.TimerSeat.{TimerSeat}
-use Rattle.timer_list.specs.Seats.{IsSeatAtTimers}
+use Rattle.timer_list.specs.Seats.{IsSeatAtTimers, set_at, cancelled_at}
 use Rattle.timer_list.specs.Timers.{may_add, timer_of}
 use Rattle.timer_list.specs.Timers as timing
 
@@ -21,6 +23,16 @@ module _ (timers : Timers) (set : Bool) (call : TimerCall) (answer : TimerReply)
         (view_of before.seat) (view_of after.seat)
     pub seat : IsSeatAtTimers timers set after
     pub number : number_of after.seat ≡ number_of before.seat
+
+-- The seat was asked for this process, and notes where the process was then: as its timer was set
+-- last, and as that was cancelled last.
+abbrev pub IsMarked : TimerCall → Process → TimerSeat → TimerSeat → Type 0
+IsMarked (Add seat pid deadline) process before after =
+    (set_at after ≡ Some process) × (cancelled_at after ≡ cancelled_at before)
+IsMarked (Cancel seat) process before after =
+    (set_at after ≡ set_at before) × (cancelled_at after ≡ Some process)
+IsMarked (Expire now) process before after =
+    (set_at after ≡ set_at before) × (cancelled_at after ≡ cancelled_at before)
 
 -- ---- answers
 

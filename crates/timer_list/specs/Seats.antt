@@ -1,6 +1,7 @@
 -- What clauses see of timers and of their seats.
-use Rattle.std.specs.Prelude.{◌≡◌, ℕ, Bool, false, List, [], ◌∷◌}
+use Rattle.std.specs.Prelude.{◌≡◌, ℕ, Bool, false, List, [], ◌∷◌, Option}
 use Rattle.kernel_lock.specs.Seats.{IsSeatOf, SeesHistory, shares_of, number_of, IsFirstSeat}
+use Rattle.rendez_words.specs.Process.{Process}
 use Rattle.timer_list.specs.declared.timers.Timers.{Timers}
 use Rattle.timer_list.specs.declared.timers.TimerSeat.{TimerSeat}
 use Rattle.timer_list.specs.Definitions.{timer_definition}
@@ -26,3 +27,11 @@ pub record AreNewTimers (procs : ℕ) (timers : Timers) (seat : TimerSeat) : Typ
   pub procs_are : timers.procs ≡ procs
   pub seat_is : IsTimerSeatOf timers seat
   pub first_seat : IsFirstSeat seat.seat
+
+-- the process as it was when the timer of the seat was set last, if it ever was
+abbrev pub set_at : TimerSeat → Option Process
+set_at seat = seat.set.process
+
+-- the process as it was when that timer was cancelled last
+abbrev pub cancelled_at : TimerSeat → Option Process
+cancelled_at seat = seat.cancelled.process

@@ -1,9 +1,11 @@
 -- What a call with a deadline does: the wait of all devices, and one timer, set and cancelled.
 -- After tsemacquire in semacquire(2) and tsleep of the kernel. Own: the ticks, the wait for a note
 -- `expired` where a tick took the timer, and which notes are put back. The steps of a process and
--- the requests at its timers are two histories: nothing says which step comes before which request.
-use Rattle.std.specs.Prelude.{◌≡◌, ◌≢◌, ◌⊎◌, ℕ, zero, suc, Bool, true, false, Some, None}
+-- the requests at its timers are two histories: a timer's seat keeps where the process was when it
+-- set the timer and when it cancelled it, and so the timer stood while the process slept.
+use Rattle.std.specs.Prelude.{◌≡◌, ◌≢◌, ◌⊎◌, ⊤, ℕ, zero, suc, Bool, true, false, Some, None}
 use Rattle.std.specs.Prelude.{Result, Ok, Err}
+use Rattle.std.proofs.Common.{inl, inr}
 use Rattle.kernel_lock.specs.Seats.{number_of, opening_of, seen_of}
 use Rattle.rendez_words.specs.Process.{Process, pid_in}
 use Rattle.rendez_words.specs.Steps.{posts, drains, notes}
@@ -23,6 +25,7 @@ use Rattle.timer_list.specs.declared.timers.Timers.{Timers}
 use Rattle.timer_list.specs.declared.timers.TimerSeat.{TimerSeat}
 use Rattle.timer_list.specs.Asking.{AsksTimers, cancel_reply}
 use Rattle.timer_list.specs.Definitions.{timer_definition}
+use Rattle.timer_list.specs.Seats.{set_at, cancelled_at}
 use Rattle.timer_list.specs.TimerHistory.{WasTaken}
 use Rattle.waiting.specs.declared.call.Reply.TheVariants.{Wait}
 use Rattle.waiting.specs.declared.wait.WaitEnd.{WaitEnd}
@@ -113,6 +116,12 @@ module _ {Out : Type 0} (expired : Bool) (others : NoteSet) where
 
 -- ---- the call
 
+-- the timer of the seat was set last when its process was there, and cancelled last when it was
+-- here
+pub record Stood (timer : TimerSeat) (there here : Process) : Type 0 where
+  pub set : set_at timer ≡ Some there
+  pub cancelled : cancelled_at timer ≡ Some here
+
 -- the state of a call with a deadline: its seats, and the steps of its process
 abbrev pub TimedPoint : Type 0 → Type 0
 TimedPoint Seat = RunPoint TimerSeat Seat
@@ -164,6 +173,24 @@ module _ {Seat Out : Type 0} (promise : Promise Seat Out) (rendez : RendezId) (t
   abbrev pub TimedCall : TimedPoint Seat → Result Out Fault → TimedPoint Seat → Type 0
   TimedCall before answer after =
       BegunAtOnce before answer after ⊎ TimedWait before answer after
+
+  -- where it waited, its timer stood from before its first sleep until after its last
+  abbrev pub StoodMeanwhile : (before : TimedPoint Seat) (answer : Result Out Fault)
+      (after : TimedPoint Seat) → TimedCall before answer after → Type 0
+  StoodMeanwhile before answer after (inl at_once) = ⊤
+  StoodMeanwhile before answer after (inr waits) =
+      Stood after.timer waits.first.at.process waits.process
+
+  -- A call until this moment that has a timer whenever it sleeps.
+  pub record TimedThroughout (before : TimedPoint Seat) (answer : Result Out Fault)
+      (after : TimedPoint Seat) : Type 0 where
+    pub call : TimedCall before answer after
+    pub stood : StoodMeanwhile before answer after call
+
+-- it waits until this moment at these timers, with a timer whenever it sleeps
+abbrev pub timed_throughout : Timers → ℕ → Runs TimerSeat
+timed_throughout timers moment =
+    record { ran = λ promise rendez. TimedThroughout promise rendez timers moment }
 
 -- it waits until this moment at these timers
 abbrev pub until_a_moment : Timers → ℕ → Runs TimerSeat

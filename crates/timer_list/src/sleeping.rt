@@ -7,7 +7,7 @@ ghost use Rattle.rendez_words.specs.Words.{rendez_of};
 ghost use Rattle.timer_list.specs.Seats.{IsTimerSeatOf};
 ghost use Rattle.timer_list.specs.Sleeping.{sleeping};
 ghost use Rattle.timer_list.specs.Timers.{deadline_of};
-ghost use Rattle.timer_list.specs.Timing.{TimedCall};
+ghost use Rattle.timer_list.specs.Timing.{TimedThroughout};
 ghost use Rattle.waiting.specs.Runners.{run_point};
 
 use crate::timers::{TimerSeat, Timers};
@@ -55,7 +55,7 @@ impl Timers {
 
         // Else it slept, with its timer set.
         ensures slept { rendez.0 < rendez_of proc.old.words → threshold < TOP_LEVEL
-            → TimedCall (sleeping threshold) rendez self.now (deadline_of now ms)
+            → TimedThroughout (sleeping threshold) rendez self.now (deadline_of now ms)
             (run_point tt timer.old proc.old) result (run_point tt timer.new proc.new) }
         ensures words { proc.new.words ≡ proc.old.words }
 

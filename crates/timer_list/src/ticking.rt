@@ -28,7 +28,7 @@ impl Timers {
             (point timer.old proc.old) (point timer.new proc.new) }
     {
         for expired in 0..self.procs {
-            match self.expire(rt, timer, now) {
+            match self.expire(rt, proc, timer, now) {
                 None => return expired,
                 Some(pid) => tell(proc, pid),
             }

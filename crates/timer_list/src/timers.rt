@@ -1,6 +1,7 @@
 //! Timers on threads, and the seats of their processes.
 use crate::{TimerCall, TimerObject, TimerReply};
 use kernel_lock::{LockSeat, Locked, Opened};
+use sleep_wakeup::{Proc, Steps};
 use std::alloc::Global;
 use std::sync::Wait;
 use sync_base::Fault;
@@ -17,6 +18,10 @@ pub struct Timers {
 #[derive(Drop)]
 pub struct TimerSeat {
     pub(crate) seat: LockSeat<TimerObject>,
+    // Which steps its process had made when its timer was set last, and when it was cancelled last.
+    // Contracts alone see them, and `ask` alone writes them.
+    set: Steps,
+    cancelled: Steps,
 }
 
 /// New timers, and their first seat.
@@ -30,7 +35,7 @@ impl Timers {
     ghost use Rattle.std.specs.Prelude.{◌≡◌, Bool, IfOk, IfErr, OnOk, OnErr};
     ghost use Rattle.sync_base.specs.declared.fault.Fault.TheVariants.{NoProc};
     ghost use Rattle.kernel_lock.specs.Seats.{Splits, KnowsAllGiven, NamesOwn, number_of};
-    ghost use Rattle.timer_list.specs.Asking.{AsksTimers, IsTimed};
+    ghost use Rattle.timer_list.specs.Asking.{AsksTimers, IsMarked, IsTimed};
     ghost use Rattle.timer_list.specs.Definitions.{timer_definition};
     ghost use Rattle.sleep_core.specs.Limits.{IsProcCount};
     ghost use Rattle.timer_list.specs.Seats.{IsSeatAtTimers, IsTimerSeatOf, AreNewTimers};
@@ -54,7 +59,7 @@ impl Timers {
         let Opened { lock, seat } = Locked::new(alloc, object, procs)?;
         Ok(OpenedTimers {
             timers: Timers { lock, procs },
-            seat: TimerSeat { seat },
+            seat: TimerSeat::of(seat),
         })
     }
 
@@ -75,18 +80,54 @@ impl Timers {
             (KnowsAllGiven self.now.lock seat.old.seat seat.new.seat) }
     {
         let seat = self.lock.split(rt, &mut seat.seat)?;
-        Ok(TimerSeat { seat })
+        Ok(TimerSeat::of(seat))
     }
 
-    // Asks the timers, in its turn.
-    pub(crate) fn ask<R: Wait>(&self, rt: &R, seat: &mut TimerSeat, call: TimerCall) -> TimerReply
+    // Asks the timers, in its turn, for this process.
+    pub(crate) fn ask<R: Wait>(
+        &self,
+        rt: &R,
+        proc: &Proc<'_>,
+        seat: &mut TimerSeat,
+        call: TimerCall,
+    ) -> TimerReply
         requires seat { (set : Bool) × IsSeatAtTimers self.now set seat.old }
         requires named { NamesOwn timer_definition seat.old.seat call }
         ensures asked { (set : Bool) → IsSeatAtTimers self.now set seat.old →
             AsksTimers self.now (sets_after call result set) call result seat.old seat.new }
         ensures told { (set : Bool) → IsSeatAtTimers self.now set seat.old →
             IsTimed self.now.procs (number_of seat.old.seat) set call result }
+        ensures marked { IsMarked call proc.now.process seat.old seat.new }
     {
+        seat.mark(proc, &call);
         self.lock.apply(rt, &mut seat.seat, call)
+    }
+}
+
+impl TimerSeat {
+    ghost use Rattle.std.specs.Prelude.{◌≡◌};
+    ghost use Rattle.timer_list.specs.Asking.{IsMarked};
+
+    // A seat whose timer was never set.
+    fn of(seat: LockSeat<TimerObject>) -> TimerSeat
+        ensures { result.seat ≡ seat }
+    {
+        TimerSeat {
+            seat,
+            set: Steps::of_nobody(),
+            cancelled: Steps::of_nobody(),
+        }
+    }
+
+    // Notes which steps the process has made at this request.
+    fn mark(&mut self, proc: &Proc<'_>, call: &TimerCall)
+        ensures seat { self.new.seat ≡ self.old.seat }
+        ensures marked { IsMarked call.now proc.now.process self.old self.new }
+    {
+        match call {
+            TimerCall::Add { .. } => self.set = proc.steps(),
+            TimerCall::Cancel { .. } => self.cancelled = proc.steps(),
+            TimerCall::Expire { .. } => {}
+        }
     }
 }

@@ -1,10 +1,10 @@
 //! How a call waits until a moment.
-ghost use Rattle.std.specs.Prelude.{◌≡◌, ◌<◌, ℕ, true};
+ghost use Rattle.std.specs.Prelude.{◌≡◌, ◌<◌, ℕ, Some, true};
 ghost use Rattle.sync_base.specs.declared.note.Note.TheVariants.{Expired};
 ghost use Rattle.sync_base.specs.NoteSet.{holds};
 ghost use Rattle.kernel_lock.specs.Seats.{number_of};
 ghost use Rattle.rendez_words.specs.Words.{rendez_of};
-ghost use Rattle.timer_list.specs.Seats.{IsSeatAtTimers, IsTimerSeatOf};
+ghost use Rattle.timer_list.specs.Seats.{IsSeatAtTimers, IsTimerSeatOf, cancelled_at, set_at};
 ghost use Rattle.timer_list.specs.Timers.{deadline_of};
 ghost use Rattle.timer_list.specs.Timing.{
   TimedEnd,
@@ -12,7 +12,7 @@ ghost use Rattle.timer_list.specs.Timing.{
   Looks,
   LooksForTick,
   PutsBackAny,
-  TimedCall,
+  TimedThroughout,
   awaiting,
   notes_of,
   without_expired,
@@ -44,7 +44,7 @@ impl<'t> Runner for Deadline<'t> {
     ghost use Rattle.kernel_lock.specs.Seats.{number_of};
     ghost use Rattle.timer_list.specs.Seats.{IsTimerSeatOf};
     ghost use Rattle.timer_list.specs.Timers.{deadline_of};
-    ghost use Rattle.timer_list.specs.Timing.{until_a_moment};
+    ghost use Rattle.timer_list.specs.Timing.{timed_throughout};
 
     type Timer = TimerSeat;
 
@@ -54,7 +54,7 @@ impl<'t> Runner for Deadline<'t> {
 
     ghost kept = { λ timer. number_of timer.seat };
 
-    ghost runs = { λ until. until_a_moment until.timers.now (deadline_of until.from until.ms) };
+    ghost runs = { λ until. timed_throughout until.timers.now (deadline_of until.from until.ms) };
 
     fn run<R: Wait, C: WaitingCall, P: Probe>(
         &self,
@@ -74,7 +74,8 @@ impl<'t> Runner for Deadline<'t> {
 /// Makes a call, as `wait_for` of `waiting` does, with a deadline for its wait. After tsemacquire
 /// in semacquire(2) and tsleep of the kernel; the tick is the library's own.
 ///
-/// A call that has to wait sets its timer first. Where notes end its wait, and it has come to no
+/// A call that has to wait sets its timer before it sleeps first, and cancels it when it has slept
+/// last: it has a timer whenever it sleeps. Where notes end its wait, and it has come to no
 /// result by then, it is refused as `TimedOut` where a tick took its timer and no other note came,
 /// and else as `Interrupted` with the other notes. With any other answer, other notes that came are
 /// pending again. Where a tick has taken its timer, it takes a note `expired` before it answers: so
@@ -103,7 +104,7 @@ pub fn wait_within<R: Wait, C: WaitingCall, P: Probe>(
     // When it returns, its timer is cancelled.
     ensures timer { IsTimerSeatOf until.entry.timers.now timer.new }
     ensures timer_number { number_of timer.new.seat ≡ number_of timer.old.seat }
-    ensures waited { TimedCall (C.promise call.now) rendez until.entry.timers.now
+    ensures waited { TimedThroughout (C.promise call.now) rendez until.entry.timers.now
         (deadline_of until.entry.from until.entry.ms)
         (run_point (C.sight seat.old buffer.old) timer.old proc.old) result
         (run_point (C.sight seat.new buffer.new) timer.new proc.new) }
@@ -123,7 +124,7 @@ pub fn wait_within<R: Wait, C: WaitingCall, P: Probe>(
         Reply::Done(out) => Ok(out),
         Reply::Refused(why) => Err(why),
         Reply::Wait(number) => {
-            timers.add(rt, timer, pid, deadline(now, ms));
+            timers.add(rt, proc, timer, pid, deadline(now, ms));
             let ending = sleep_for(rt, proc, rendez, call, seat, buffer, number, probe);
             end_within(rt, proc, rendez, timers, timer, ending)
         }
@@ -145,10 +146,12 @@ fn end_within<R: Wait, T: Drop>(
     ensures words { proc.new.words ≡ proc.old.words }
     ensures timer { IsTimerSeatOf timers.now timer.new }
     ensures timer_number { number_of timer.new.seat ≡ number_of timer.old.seat }
+    ensures cancelled { cancelled_at timer.new ≡ Some proc.old.process }
+    ensures set { set_at timer.new ≡ set_at timer.old }
     ensures ended { TimedEnd rendez timers.now timer.old ending proc.old.process result
         timer.new proc.new.process }
 {
-    let expired = timers.cancel(rt, timer);
+    let expired = timers.cancel(rt, proc, timer);
     let came = await_tick(rt, proc, rendez, expired, taken_by(&ending));
     answer_timed(proc, ending, expired, came)
 }

@@ -339,9 +339,9 @@ class Space:
     """A tag space: who waits with which tag and value, the values that were brought to those who waited, and how many calls of
     each member were met."""
 
-    def __init__(self, members, first):
-        self.members, self.first, self.given = members, first, 0
-        self.waiting, self.brought, self.meetings = {}, {}, [0] * members
+    def __init__(self, seats, first):
+        self.seats, self.first, self.given = seats, first, 0
+        self.waiting, self.brought, self.meetings = {}, {}, [0] * seats
 
 
 def meet_once(proc, space, member, tag, value, watch=None):

@@ -23,6 +23,12 @@ CALLS = {
 FORKS = {"zero", "plain", "reader", "writer"}
 PROBED = {"sleep": {"plain", "reader", "writer"}, "acquire": {"holder"}, "try_acquire": {"holder"}, "acquire_within": {"holder"},
           "rendezvous": {"guest"}, "rendezvous_within": {"guest"}}
+# How many operands a call of another process than 0 has. A role may stand behind them.
+OPERANDS = {"sleep": 2, "sleep_within": 4, "wakeup": 2, "tick": 1, "note": 2, "put_back": 1, "read": 1, "read_within": 3, "try_read": 1,
+            "next_piece": 1, "read_exact": 1, "write": 1, "write_within": 3, "write_long": 1, "acquire_within": 2, "release": 1,
+            "rendezvous": 2, "rendezvous_within": 4, "rendezvous_word": 2}
+# The calls in a role at an object that need no Rendez of it.
+NEEDS_NO_ROW = {"note", "notes", "rendez"}
 # The calls that do something before their first point or step.
 ACTS_AT_ONCE = {"wakeup", "hangup", "sleep_within"}
 MOST_STEPS, MOST_KEPT = 3000, 8
@@ -65,10 +71,24 @@ def flags_of(word):
     return int(word) if word.isdigit() else sum(FLAGS[it] for it in word.split(",")) if word != "-" else 0
 
 
+def role_of(words):
+    """The role that these words name: at which object, and whether at the direction back."""
+    is_back = words[-1:] == ["back"]
+    number = words[1:len(words) - is_back]
+    return words[0], int(number[0]) if number else 1, is_back
+
+
+def lacks(rendez, held):
+    """Whether so many Rendez don't reach the end of the row of a thing with seats."""
+    row = held.row()
+    return row is not None and rendez < row.first + row.seats
+
+
 class Run:
     """A call under way: its generator, the lines that are kept for it, and what it has visited."""
 
-    def __init__(self, call, acts=True):
+    def __init__(self, call, acts=True, held=None):
+        self.held = held  # by what of its process it is made
         self.call, self.kept, self.due = call, None, []  # the kept lines of the point at which it stands are due
         self.acts = acts  # whether its next step does anything
         self.points, self.posted, self.parked, self.is_stopped, self.answer = [], [], None, False, None
@@ -80,12 +100,46 @@ class Run:
         return self.answer is None and (self.parked is None or bool(self.parked()))
 
 
-class Actor:
-    """A process of a scene: its number, its role, and what it has a seat at."""
+class Held:
+    """What a process has by a role: a seat, or which end, of a thing."""
 
-    def __init__(self, proc, number, role, thing=None, seat=None):
-        self.proc, self.number, self.role, self.thing, self.seat = proc, number, role, thing, seat
+    def __init__(self, role, which=1, is_back=False, thing=None, seat=None):
+        self.role, self.which, self.is_back, self.thing, self.seat = role, which, is_back, thing, seat
+
+    def name(self):
+        return self.role, self.which, self.is_back
+
+    def row(self):
+        """Where the seats of its thing are counted; none where it has no seat."""
+        return self.thing.line if self.role == "sharer" else self.thing if self.role in ("holder", "guest") else None
+
+
+class Actor:
+    """A process of a scene: its number, and what it has, in the order in which it got it."""
+
+    def __init__(self, proc, number, *held):
+        self.proc, self.number, self.held = proc, number, list(held)
         self.run, self.is_gone, self.points, self.posted = None, False, [], []
+
+    def last(self, *roles):
+        """What it got last in one of these roles; none where it has none."""
+        return next((it for it in reversed(self.held) if it.role in roles), None)
+
+    def maker(self, verb, name=None):
+        """By what it makes this call: in the role that is named, or by what it got last that makes it."""
+        suiting = (it for it in reversed(self.held) if verb in CALLS[it.role] and name in (None, it.name()))
+        return next(suiting, None)
+
+
+class As:
+    """A process in one of its roles."""
+
+    def __init__(self, actor, held):
+        self.actor, self.held = actor, held
+
+    def __getattr__(self, name):
+        own = ("role", "which", "is_back", "thing", "seat")
+        return getattr(vars(self)["held"] if name in own else vars(self)["actor"], name)
 
 
 class Lab:
@@ -143,7 +197,7 @@ class Lab:
             return NO_RENDEZ
         self.kernel = Kernel(procs, rendez)
         self.roster = Roster(self.kernel)
-        self.actors[0] = Actor(Proc(self.kernel, 0), 0, "zero")
+        self.actors[0] = Actor(Proc(self.kernel, 0), 0, Held("zero"))
         return None
 
     def other_line(self, words):
@@ -174,9 +228,11 @@ class Lab:
             return self.look(actor)
         if verb in ("points", "posted"):
             return self.visited(actor, verb)
+        if verb == "gets" and not actor.number:
+            raise NotAScene(words)
         if actor.is_gone or actor.run:
             return NOT_HERE
-        if verb in ("fork", "rfork", "clock"):
+        if verb in ("fork", "rfork", "clock", "gets"):
             return getattr(self, verb)(actor, rest)
         return self.start(actor, verb, rest[:-1] if is_apart else rest, is_apart)
 
@@ -260,12 +316,13 @@ class Lab:
     def begun(self, actor, verb, rest):
         """The call, which takes the lines that are kept; or one that is answered at once."""
         has_kept = bool(actor.number and self.kept and self.is_fresh and verb != "notepg")
-        is_probed = actor.role in PROBED.get(verb, ())
-        if has_kept and not is_probed:
+        count = OPERANDS.get(verb, 0) if actor.number and verb != "notepg" else len(rest)
+        held = actor.maker(verb, role_of(rest[count:]) if rest[count:] else None)
+        if has_kept and not (held and held.role in PROBED.get(verb, ())):
             call = "not probed"
         else:
-            call = self.call(actor, verb, rest) if verb in CALLS[actor.role] else NOT_ITS
-        run = actor.run = Run(at_once(call) if isinstance(call, str) else call, verb in ACTS_AT_ONCE)
+            call = self.call(As(actor, held), verb, rest[:count]) if held else NOT_ITS
+        run = actor.run = Run(at_once(call) if isinstance(call, str) else call, verb in ACTS_AT_ONCE, held)
         if has_kept:
             self.is_fresh, self.keeper, run.kept = False, actor, self.kept
             actor.points, actor.posted = run.points, run.posted
@@ -386,7 +443,7 @@ class Lab:
         number = int(number)
         if not 1 <= number <= len(self.spaces) or self.spaces[number - 1].given:
             return "no space"
-        return self.make_space(self.spaces[number - 1].members)
+        return self.make_space(self.spaces[number - 1].seats)
 
     def make_clock(self, seats):
         if not 1 <= int(seats) <= 1024:
@@ -408,119 +465,114 @@ class Lab:
     # ---- processes
 
     def fork(self, actor, words):
-        if actor.role == "holder":
-            return self.rfork(actor, ["proc", "holder"]) if not words else NOT_ITS
-        return self.rfork(actor, ["proc", *words])
+        if words:
+            return self.fork_in_role(actor, RFPROC, *role_of(words))
+        held = actor.last("holder")
+        return self.fork_beside(actor, held) if held else NOT_ITS
 
     def rfork(self, actor, words):
-        role, rest = (words[1:2] or ["plain"])[0], words[2:]
-        if actor.role == "holder":
-            return self.fork_holder(actor)
-        if actor.role == "guest" and not words[1:]:
-            return self.fork_guest(actor, flags_of(words[0]))
-        if actor.role not in FORKS:
-            return NOT_ITS
         flags = flags_of(words[0])
-        if role == "writers":
-            return self.fork_writers(actor, flags, rest)
-        if role == "sharer" and self.is_apart_beside(flags, rest):
+        if words[1:]:
+            return self.fork_in_role(actor, flags, *role_of(words[1:]))
+        held = actor.last("guest")
+        return self.fork_guest(actor, held, flags) if held else self.fork_in_role(actor, flags, "plain")
+
+    def fork_in_role(self, actor, flags, role, which=1, is_back=False):
+        if not actor.last(*FORKS):
             return NOT_ITS
-        first = self.first_sharer(rest) if role == "sharer" else None
-        if first and flags == RFPROC and first.thing.line.given == first.thing.line.seats:
-            return NO_PROC
-        child = self.roster.rfork(first.proc if first and flags & RFPROC else actor.proc, flags)
+        is_one = flags in (RFPROC, RFPROC | RFNOTEG)
+        found = self.who_has(role, self.thing(role, which)) if role == "sharer" and is_one else None
+        if found:
+            return NOT_ITS if flags & RFNOTEG else self.fork_beside(*found)
+        if role == "writers" and is_one:
+            return self.fork_writers(actor, flags, which, is_back)
+        child = self.roster.rfork(actor.proc, flags)
         if not isinstance(child, Proc):
             return child or "nobody"
-        made = self.cast(child, child.pid, role, rest)
-        if isinstance(made, str):
-            self.actors[child.pid] = Actor(child, child.pid, role)
-            self.actors[child.pid].is_gone = True
-            return made
-        self.actors[child.pid] = made
-        return f"process {child.pid}"
+        return self.seat(child, child.pid, self.get(role, which, is_back))
 
-    def is_apart_beside(self, flags, rest):
-        """Whether a sharer beside the first is to begin a note group."""
-        return flags == RFPROC | RFNOTEG and self.first_sharer(rest) is not None
+    def seat(self, proc, number, got):
+        """A process with what it got; who was refused is gone."""
+        actor = self.actors[number] = Actor(proc, number)
+        if isinstance(got, str):
+            actor.is_gone = True
+            return got
+        actor.held.append(got)
+        return f"process {number}"
 
-    def first_sharer(self, rest):
-        number = int((rest or ["1"])[0])
-        turns = self.turns[number - 1] if 1 <= number <= len(self.turns) else None
-        return turns and next((it for it in self.actors.values() if it.role == "sharer" and it.thing is turns), None)
-
-    def fork_holder(self, actor):
-        sema = actor.thing
-        if sema.given == sema.seats or not self.roster.pids_left():
+    def fork_beside(self, actor, held):
+        """A child with a seat beside its parent's."""
+        if held.row().given == held.row().seats or not self.roster.pids_left():
             return NO_PROC
         child = self.roster.rfork(actor.proc, RFPROC)
-        self.actors[child.pid] = self.cast_at(child, child.pid, "holder", sema)
-        return f"process {child.pid}"
+        return self.seat(child, child.pid, self.beside(held.role, held.which, held.thing))
 
-    def fork_writers(self, actor, flags, rest):
-        way = self.way(rest[0] if rest and rest[0] != "back" else "1", rest[-1:] == ["back"])
-        if flags & ~(RFPROC | RFNOTEG) or not flags & RFPROC:
-            return self.roster.rfork(actor.proc, flags) or "nobody"
-        if way is None or way.writers - way.written > self.roster.pids_left():
+    def fork_writers(self, actor, flags, which, is_back):
+        way = self.way(which, is_back)
+        count = way.writers - way.written if way else 1024
+        if count > self.roster.pids_left():
             return NO_PROC
-        count = way.writers - way.written
-        for _ in range(count):
-            child = self.roster.rfork(actor.proc, flags)
-            self.actors[child.pid] = self.cast(child, child.pid, "writer", rest)
-        return f"process {child.pid}" if count else "nobody"
+        children = [self.roster.rfork(actor.proc, flags) for _ in range(count)]
+        return [self.seat(it, it.pid, self.get("writer", which, is_back)) for it in children][-1] if count else "nobody"
 
     def stranger(self, words):
-        procs, rendez, role, rest = int(words[0]), int(words[1]), words[2], words[3:]
+        procs, rendez, name = int(words[0]), int(words[1]), role_of(words[2:])
         if not 1 <= procs <= 1024:
             return NO_PROC
         if not 1 <= rendez <= 8192:
             return NO_RENDEZ
-        number = 1024 + self.strangers
-        made = self.cast(Proc(Kernel(procs, rendez), 0), number, role, rest)
-        if isinstance(made, str):
-            return made
-        self.actors[number], self.strangers = made, self.strangers + 1
-        return f"process {number}"
+        held = Held(*name, self.thing(*name[:2]))
+        got = NO_RENDEZ if held.thing and lacks(rendez, held) else self.get(*name)
+        if isinstance(got, str):
+            return got
+        number, self.strangers = 1024 + self.strangers, self.strangers + 1
+        return self.seat(Proc(Kernel(procs, rendez), 0), number, got)
 
-    def cast(self, proc, number, role, rest):
-        """The process in its role at its object, or why it can't have it."""
-        is_back = rest[-1:] == ["back"]
-        which = int(next(iter(rest), "1") if rest[:1] != ["back"] else "1")
+    def gets(self, actor, words):
+        got = self.get(*role_of(words))
+        if isinstance(got, str):
+            return got
+        actor.held.append(got)
+        return "ok"
+
+    def thing(self, role, which):
+        """What has seats for this role; none where there is no such thing."""
+        kind = {"holder": self.semas, "guest": self.spaces, "sharer": self.turns}.get(role, [])
+        return kind[which - 1] if which <= len(kind) else None
+
+    def who_has(self, role, thing):
+        """The first process here that has this role there, and what it has."""
+        here = (it for it in self.actors.values() if not it.run and not it.is_gone)
+        return next(((it, held) for it in here for held in it.held if held.role == role and held.thing is thing), None)
+
+    def get(self, role, which, is_back):
+        """What a process gets by a role, or why it can't have it."""
         if role == "plain":
-            return Actor(proc, number, role)
-        if number >= 1024 and role == "writers":
-            return NO_PROC
+            return Held(role, which, is_back)
         if role in ("reader", "writer"):
-            return self.cast_at_pipe(proc, number, role, self.way(which, is_back))
-        kind = {"holder": self.semas, "guest": self.spaces, "sharer": self.turns}[role]
-        if not 1 <= which <= len(kind) or number >= 1024 and role == "sharer" and kind[which - 1].line.given:
+            return self.get_end(role, which, is_back)
+        thing = self.thing(role, which)
+        if thing is None or Held(role, thing=thing).row().given and not self.who_has(role, thing):
             return NO_PROC
-        thing = kind[which - 1]
-        if role in ("holder", "guest") and thing.given and not self.is_anybody_at(role, thing):
-            return NO_PROC
-        return self.cast_at(proc, number, role, thing)
+        return self.beside(role, which, thing, is_back)
 
-    def is_anybody_at(self, role, thing):
-        """Whether somebody is here beside whom one more may be."""
-        return any(it.role == role and it.thing is thing and not it.run and not it.is_gone for it in self.actors.values())
-
-    def cast_at_pipe(self, proc, number, role, way):
+    def get_end(self, role, which, is_back):
+        way = self.way(which, is_back)
         if way is None or (way.is_read if role == "reader" else way.written == way.writers):
             return NO_PROC
         if role == "reader":
             way.is_read = True
-            return Actor(proc, number, role, way)
+            return Held(role, which, is_back, way)
         way.written += 1
-        return Actor(proc, number, role, way, way.written - 1)
+        return Held(role, which, is_back, way, way.written - 1)
 
-    def cast_at(self, proc, number, role, thing):
-        row = thing.line if role == "sharer" else thing
-        size = row.members if role == "guest" else row.seats
-        if proc.kernel.rendez < row.first + size:
-            return NO_RENDEZ
-        if row.given == size:
+    def beside(self, role, which, thing, is_back=False):
+        """The next seat of a thing, if there is one."""
+        row = Held(role, thing=thing).row()
+        if row.given == row.seats:
             return NO_PROC
         row.given += 1
-        return Actor(proc, number, role, thing, row.given - 1)
+        return Held(role, which, is_back, thing, row.given - 1)
 
     def clock(self, actor, words):
         number = int((words or ["1"])[0])
@@ -533,30 +585,30 @@ class Lab:
         actor.proc.timer = dev.TimerSeat(timers, timers.given - 1)
         return "ok"
 
-    def fork_guest(self, actor, flags):
+    def fork_guest(self, actor, held, flags):
         """The rfork of a guest: flags, pid, Rendez and member, in this order."""
-        space = actor.thing
+        space, which = held.thing, held.which
         if flags & ~7:
             return "bad flags"
         if flags & RFPROC and not self.roster.pids_left():
             return NO_PROC
-        if flags & RFREND and self.roster.rendez_left() < space.members:
+        if flags & RFREND and self.roster.rendez_left() < space.seats:
             return NO_RENDEZ
-        if flags & RFPROC and not flags & RFREND and space.given == space.members:
+        if flags & RFPROC and not flags & RFREND and space.given == space.seats:
             return NO_PROC
         child = self.roster.rfork(actor.proc, flags & ~RFREND)
         if flags & RFREND:
-            space = dev.Space(space.members, self.roster.row(space.members))
+            space = dev.Space(space.seats, self.roster.row(space.seats))
             self.spaces.append(space)
-        if child is None:
-            if flags & RFREND and actor.proc.kernel.rendez < space.first + space.members:
-                actor.is_gone = True
-                return NO_RENDEZ
-            if flags & RFREND:
-                actor.thing, actor.seat, space.given = space, 0, 1
-            return "nobody"
-        self.actors[child.pid] = self.cast_at(child, child.pid, "guest", space)
-        return f"process {child.pid}"
+            which = len(self.spaces)
+        if child:
+            return self.seat(child, child.pid, self.beside("guest", which, space))
+        if flags & RFREND and lacks(actor.proc.kernel.rendez, Held("guest", thing=space)):
+            actor.is_gone = True
+            return NO_RENDEZ
+        if flags & RFREND:
+            vars(held).update(vars(self.beside("guest", which, space)))
+        return "nobody"
 
     # ---- calls
 
@@ -568,6 +620,8 @@ class Lab:
             return dev.tick(actor.proc, timers, numbers[0]) if timers else NO_CLOCK
         if verb.endswith("_within") and not actor.proc.timer:
             return NO_CLOCK
+        if verb not in NEEDS_NO_ROW and lacks(actor.proc.kernel.rendez, actor.held):
+            return done(lambda: NO_RENDEZ)
         if verb == "room":
             raise NotAScene("the model knows no memory")
         return getattr(self, f"call_{verb}")(actor, words, numbers)

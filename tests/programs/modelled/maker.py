@@ -6,7 +6,7 @@ differently where other processes go first is cut off.
 """
 import random
 
-from modelled.lab import ALONE, CALLS, PROBED, Lab, NoAnswer
+from modelled.lab import ALONE, CALLS, OPERANDS, PROBED, As, Lab, NoAnswer
 from modelled.layer import KINDS, TOP_LEVEL
 from modelled.moves import SLEEPERS, move
 from modelled.opening import ROLES, Opening
@@ -130,9 +130,16 @@ class Maker:
         self.say(line)
         self.meet(before)
 
+    def line(self, actor, words):
+        """A call of a process in this role, which is named where the call would else be made in another."""
+        held, verb = actor.held, words[0]
+        is_named = verb in CALLS[held.role] and actor.maker(verb) is not held and len(words) == 1 + OPERANDS.get(verb, 0)
+        name = [held.role, str(held.which)] + ["back"] * held.is_back
+        return " ".join([str(actor.number), *words, *(name if is_named and verb not in ("notepg", "rfork") else [])])
+
     def make_call(self, actor, words):
         """A call of a process, with `&` where it waits, and else mostly without."""
-        before, line = self.moves(), " ".join([str(actor.number), *words])
+        before, line = self.moves(), self.line(actor, words)
         if actor.number == 0 or words[0] in ("rfork", "notepg"):
             return self.tell(line)
         self.say(f"{line} &")
@@ -142,13 +149,13 @@ class Maker:
             self.lines[-1] = line, self.lines[-1][1]
         elif actor.run.answer is not None and self.dice.random() < 0.8 and not self.has_lines_to_come(actor):
             self.lines[-1] = line, actor.run.answer
-            actor.run = None
+            self.lab.actors[actor.number].run = None
         self.calls[actor.number] = words
         return self.meet(before)
 
     def has_lines_to_come(self, actor):
         """Whether another call has lines that are kept for it, which may find this process here or not."""
-        return any(it.run and it.run.kept for it in self.lab.actors.values() if it is not actor)
+        return any(it.run and it.run.kept for it in self.lab.actors.values() if it.number != actor.number)
 
     # ---- the opening
 
@@ -157,12 +164,21 @@ class Maker:
         first, *others = Opening(dice).lines()
         self.say(first)
         for line in others if self.lab.kernel else []:
-            self.attempt(self.tell, line)
+            numbers = [*self.lab.actors][1:]
+            if line.startswith("gets") and not numbers:
+                continue
+            self.attempt(self.tell, f"{dice.choice(numbers)} {line}" if line.startswith("gets") else line)
         for number in list(self.lab.actors)[1:] if self.lab.clocks else []:
             if dice.random() < 0.85:
                 self.attempt(self.tell, f"{number} clock")
-        if self.lab.kernel and dice.random() < 0.06:
-            self.attempt(self.tell, f"stranger {dice.randint(1, 3)} {dice.randint(1, 9)} {self.role()}")
+        if self.lab.kernel and dice.random() < 0.15:
+            self.attempt(self.tell, f"stranger {dice.randint(1, 3)} {dice.randint(1, 9)} {dice.choice(['plain', self.role()])}")
+        seats = [held for actor in self.lab.actors.values() for held in actor.held if held.row() and held.row().given < held.row().seats]
+        for held in dice.sample(seats, min(2, len(seats))) if self.lab.strangers else []:
+            self.attempt(self.tell, f"{STRANGERS} gets {held.role} {held.which}")
+        for it in [it for it in self.idle() if it.number >= STRANGERS and it.held.row()]:
+            verb = dice.choice(sorted(CALLS[it.role] - {"rfork"}))
+            self.attempt(self.make_call, it, [verb, *self.operands(it, verb)])
 
     def role(self):
         return self.dice.choice(ROLES)
@@ -171,7 +187,7 @@ class Maker:
 
     def turn(self):
         dice, idle = self.dice, self.idle()
-        parked = [it for it in self.lab.actors.values() if it.run]
+        parked = [As(it, it.run.held or it.held[-1]) for it in self.lab.actors.values() if it.run]
         if parked and dice.random() < 0.4:
             return self.end_a_wait(dice.choice(parked))
         if dice.random() < 0.4:
@@ -184,7 +200,8 @@ class Maker:
         verb = self.verb(actor)
         if actor.role in ("reader", "writer") and dice.random() < 0.6:
             verb = self.filling(actor)
-        is_probed = actor.role in PROBED.get(verb, ())
+        maker = actor.maker(verb)
+        is_probed = maker and maker.role in PROBED.get(verb, ())
         if verb in POINTS and is_probed and dice.random() < 0.3:
             return self.call_with_kept(actor, verb)
         if actor.number and not is_probed and verb not in POINTS and verb not in ("notepg", "rfork") and dice.random() < 0.02:
@@ -194,7 +211,8 @@ class Maker:
         return self.make_call(actor, [verb, *self.operands(actor, verb)])
 
     def idle(self):
-        return [it for it in self.lab.actors.values() if not it.run and not it.is_gone]
+        """Each process that makes no call, in each of its roles."""
+        return [As(it, held) for it in self.lab.actors.values() if not it.run and not it.is_gone for held in it.held]
 
     def forkers(self):
         return [it for it in self.idle() if it.role in SLEEPERS or it.number == 0]
@@ -215,7 +233,7 @@ class Maker:
     def pair(self):
         """A holder or a guest, and another at the same object; nobody where there are none."""
         idle = [it for it in self.idle() if it.role in ("holder", "guest")]
-        pairs = [(it, other) for it in idle for other in idle if it is not other and it.thing is other.thing]
+        pairs = [(it, other) for it in idle for other in idle if it.number != other.number and it.thing is other.thing]
         return self.dice.choice(pairs) if pairs else (None, None)
 
     def verb(self, actor):
@@ -246,7 +264,7 @@ class Maker:
         """Lines that make more, or are refused."""
         dice = self.dice
         size = dice.choice([0, 1, 2, 1024, 1025])
-        here = self.idle() if dice.random() < 0.9 else [it for it in self.lab.actors.values() if not it.is_gone]
+        here = self.idle() if dice.random() < 0.9 else [As(it, it.held[0]) for it in self.lab.actors.values() if not it.is_gone]
         forker = dice.choice([it for it in here if it.role in ("zero", "plain", "reader", "writer", "holder")])
         back = dice.choice(["", "", " back"])
         number = forker.number
@@ -254,6 +272,7 @@ class Maker:
         flags = dice.choice(["-", "proc", "noteg", "noteg", "proc,noteg", "proc,noteg", "rend", "proc,rend", "8", "15", "1"])
         rfork = f"{number} rfork {flags}{dice.choice(['', ' plain', ' writers', ' guest', ' sharer'])}"
         others = [] if forker.role == "holder" else [rfork]
+        others += [f"{dice.choice(here[1:]).number} gets {self.role()}"] * 3 if here[1:] else []
         return [fork, *others, "0 fork writers" + back, f"pipe {size} {dice.choice([0, 1, 64, 65])}", f"stream {size} 1",
                 f"sema {dice.choice([0, 1, 2147483647, 2147483648])} {size}", f"space {size}", f"clock {size}", "new_group 1",
                 f"share {size}", f"0 row {dice.choice([0, 1, 2, 9])}", "0 pids_left", "0 rendez_left", "left",
@@ -319,7 +338,7 @@ class Maker:
         self.say(f"{actor.number} {self.dice.choice(['points', 'points', 'posted'])}")
 
     def kept_line(self, actor, words):
-        dice, others = self.dice, [it for it in self.idle() if it is not actor]
+        dice, others = self.dice, [it for it in self.idle() if it.number != actor.number]
         pid = actor.proc.pid
         if dice.random() < 0.1:
             return dice.choice(["", f"{actor.number} look", f"rendez {dice.randrange(self.lab.kernel.rendez)}", f"{actor.number} notes"])
@@ -330,10 +349,10 @@ class Maker:
         same = [it for it in others if it.thing is actor.thing and it.thing is not None]
         other = dice.choice(same if same and dice.random() < 0.8 else others)
         if other in same and dice.random() < 0.5:
-            return " ".join([str(other.number), *self.answering(other, words)])
+            return self.line(other, self.answering(other, words))
         verb = self.verb(other)
         apart = ["&"] * (verb in WAITING and other.number < STRANGERS and dice.random() < 0.6)
-        return " ".join([str(other.number), verb, *self.operands(other, verb), *apart])
+        return " ".join([self.line(other, [verb, *self.operands(other, verb)]), *apart])
 
     # ---- operands
 

@@ -136,7 +136,7 @@ def note_a_group(maker):
         pid = dice.choice([poster.proc.pid, *(it.number for it in made), maker.lab.kernel.procs - 1])
         maker.tell(f"{poster.number} notepg {pid} {maker.kinds()}")
     for actor in dice.sample(made, min(len(made), 3)):
-        maker.tell(f"{actor.number} {dice.choice(['look', 'notes']) if actor in maker.idle() and actor.role != 'sharer' else 'look'}")
+        maker.tell(f"{actor.number} {'look' if actor.run or actor.is_gone else dice.choice(['look', 'notes'])}")
 
 
 def line_up(maker):
@@ -175,8 +175,8 @@ def grant_at_a_point(maker):
     words = [verb, *maker.operands(actor, verb)]
     if actor.role == "holder" and actor.thing.value:
         maker.make_call(partner, ["try_acquire"])
-    lines = [f"{partner.number} {' '.join(maker.answering(partner, words))}"] if dice.random() < (0.5 if timed else 0.85) else []
-    lines += [f"{partner.number} try_acquire"] * (partner.role == "holder" and dice.random() < 0.55)
+    lines = [maker.line(partner, maker.answering(partner, words))] if dice.random() < (0.5 if timed else 0.85) else []
+    lines += [maker.line(partner, ["try_acquire"])] * (partner.role == "holder" and dice.random() < 0.55)
     lines += [f"0 note {actor.proc.pid} {maker.kinds()}"] if dice.random() < 0.7 or not lines else []
     lines += [f"0 tick {min(int(words[1]) + int(words[2]), 2**64 - 1)}"] if timed and dice.random() < 0.7 else []
     if dice.random() < 0.5:
@@ -296,7 +296,7 @@ def move_to_a_space(maker):
         maker.tell(f"0 notepg {forker.number} {maker.kinds()}")
     for actor in {it.number: it for it in [forker, *guests[-1:]]}.values():
         if not actor.run and not actor.is_gone:
-            maker.tell(f"{actor.number} rendez")
+            maker.tell(maker.line(actor, ["rendez"]))
 
 
 def raise_a_level(maker):

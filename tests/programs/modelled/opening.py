@@ -1,4 +1,4 @@
-"""What a scene begins with: its kernel, its objects, and processes with a role at them."""
+"""What a scene begins with: its kernel, its objects, and processes with roles at them."""
 
 # The kinds of objects, each with how often a scene has one.
 KINDS_OF_OBJECTS = {"pipe": 7, "stream": 6, "sema": 7, "space": 5, "share": 1, "family": 4, "plain": 3, "clock": 2}
@@ -21,8 +21,20 @@ class Opening:
         if dice.random() < 0.06:
             procs, rendez = max(1, procs - 2), max(1, rendez - 3)
         dice.shuffle(self.forks)
+        if dice.random() < 0.4:
+            self.forks = self.by_few()
         first = f"plan rendez {rendez} processes {procs}" if dice.random() < 0.05 else f"kernel {procs} {rendez}"
         return [first, *self.made, *self.forks]
+
+    def by_few(self):
+        """The same where a few processes get most of the roles."""
+        few = self.dice.choice([1, 2, 2, 3])
+        forks, gets = self.forks[:few], []
+        for fork in self.forks[few:]:
+            verb, _, role = fork.partition(" fork ")
+            is_got = verb == "0" and "writers" not in role and self.dice.random() < 0.8
+            (gets if is_got else forks).append(f"gets {role}" if is_got else fork)
+        return forks + gets
 
     def add(self, kind, line, rendez):
         """An object: its number among those of its kind."""
@@ -62,16 +74,21 @@ class Opening:
         self.fork("writer", number)
         self.fork("sharer", self.add("share", f"share {count} {number}", count), count=count)
 
+    def sizes(self, counts):
+        """How many processes come to an object first, and how many seats it has: now and then one more."""
+        count = self.dice.choice(counts)
+        return count, count + self.dice.choice([0, 0, 1])
+
     def add_sema(self):
-        count = self.dice.choice([2, 3, 3, 4])
-        self.fork("holder", self.add("sema", f"sema {self.dice.choice([0, 0, 1, 2])} {count}", count), count=count)
+        count, seats = self.sizes([2, 3, 3, 4])
+        self.fork("holder", self.add("sema", f"sema {self.dice.choice([0, 0, 1, 2])} {seats}", seats), count=count)
 
     def add_space(self):
-        count = self.dice.choice([2, 3, 3])
-        number = self.add("space", f"space {count}", count)
+        count, seats = self.sizes([2, 3, 3])
+        number = self.add("space", f"space {seats}", seats)
         self.fork("guest", number, count=count)
         if self.dice.random() < 0.2:
-            self.fork("guest", self.add("space", f"new_group {number}", count), count=count)
+            self.fork("guest", self.add("space", f"new_group {number}", seats), count=count)
 
     def add_family(self):
         """A guest alone in a space, and room for its children and for spaces of theirs."""

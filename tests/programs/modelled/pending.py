@@ -1,7 +1,8 @@
-"""Scenes for each call by a caller whose note is pending, and by one whose note comes while it waits, in both modes of a pipe."""
+"""Scenes for each call by a caller whose note is pending, and by one whose note comes while it waits, in both modes of a pipe; and for
+each wait of a process in all roles."""
 import itertools
 
-from modelled.lab import CALLS
+from modelled.lab import CALLS, As
 from modelled.maker import Maker, Scene, answers, settled
 
 KINDS = ("alarm", "interrupt,expired")
@@ -13,6 +14,11 @@ SEMA = ["kernel 4 4", "sema {units} 2", *["0 fork holder"] * 2, "0 fork plain", 
 SPACE = ["kernel 4 4", "space 2", *["0 fork guest"] * 2, "0 fork plain", "clock 4", "1 clock"]
 FAMILY = ["kernel 4 4", "space 2", "0 fork guest", "1 rfork proc"]
 SHARED = ["kernel 5 9", "pipe 1 1", "share 2", *["0 fork sharer"] * 2, "0 fork writer"]
+# One process in all roles, and the waits of each.
+SEVERAL = ["kernel 2 19", *["{mode} 1 1"] * 3, "sema 0 2", "space 2", "share 2 3", "0 fork reader", "1 gets writer 2", "1 gets holder",
+           "1 gets guest", "1 gets sharer", "clock 4", "1 clock"]
+WAITS = ["read 3", "read 3 reader", "read_within 100 50 3", "next_piece 3", "write x", "write_within 100 50 x", "write_long x", "acquire",
+         "acquire_within 100 50", "rendezvous 7 5", "rendezvous_within 100 50 7 5", "sleep 18 0", "sleep_within 100 50 18 0"]
 ANYBODY = ["wakeup 0 1", "tick 100", "note 0 alarm", "notes", "put_back hangup", "sleep 8 0", "sleep_within 100 50 8 0"]
 ZERO = ["kernel 2 4", "0 fork plain", "clock 4", "1 clock"]
 SEEN = ["rendez", "note 0 alarm", "notes"]
@@ -34,6 +40,7 @@ def rows():
         yield mode, names, WRITER, WRITE_STATES, WRITES
         yield mode, names, PIPE, [[]], anybody
         yield mode, names, WRITER, [[]], anybody
+        yield f"several roles, {mode}", names, SEVERAL, [["1 write y"]], WAITS
     yield "alone", {}, PLAIN, [[], ["2 wakeup 0 1"], ["2 sleep 0 0 &"]], anybody
     yield "process 0", {}, ZERO, [[], ["1 sleep 0 0 &"]], [*ANYBODY[:5], "notepg 0 hangup", "rendez", "row 2", "pids_left", "rendez_left"]
     for units in "0", "1":
@@ -57,7 +64,7 @@ def settings():
 
 def missing():
     """The calls of a role that no setting has."""
-    found = {(begun(lines).lab.actors[caller].role, call.split(" ")[0]) for _, lines, caller, call in settings()}
+    found = {(held.role, call.split(" ")[0]) for _, lines, caller, call in settings() for held in begun(lines).lab.actors[caller].held}
     return sorted({(role, call) for role, calls in CALLS.items() for call in calls} - found)
 
 
@@ -67,10 +74,15 @@ def begun(lines):
     for line in lines:
         number, _, call = line.removesuffix(" &").partition(" ")
         if line.endswith(" &"):
-            maker.make_call(maker.lab.actors[int(number)], call.split(" "))
+            maker.make_call(caller_of(maker, int(number)), call.split(" "))
         else:
             maker.tell(line)
     return maker
+
+
+def caller_of(maker, number):
+    actor = maker.lab.actors[number]
+    return As(actor, actor.held[-1])
 
 
 def closed(maker, name, caller):
@@ -88,11 +100,11 @@ def written(part=0, parts=1):
     for number, (place, lines, caller, call) in itertools.islice(enumerate(settings()), part, None, parts):
         about, kinds = f"{place}: {call}, after {'; '.join(lines[1:])}", KINDS[number % 2]
         maker = begun([*lines, f"0 note {caller} {kinds}"])
-        maker.make_call(maker.lab.actors[caller], call.split(" "))
+        maker.make_call(caller_of(maker, caller), call.split(" "))
         yield closed(maker, f"{kinds} is pending, {about}", caller)
         for kinds in KINDS:
             maker = begun(lines)
-            maker.make_call(maker.lab.actors[caller], call.split(" "))
+            maker.make_call(caller_of(maker, caller), call.split(" "))
             if maker.lab.actors[caller].run:
                 maker.tell(f"0 note {caller} {kinds}")
                 yield closed(maker, f"{kinds} comes, {about}", caller)

@@ -1,7 +1,7 @@
 -- it was told of the hangup, and then it took its note back
 use Rattle.std.proofs.Common.{◌∙◌, Err, refl, subst}
 use Rattle.sync_base.specs.declared.fault.Fault.{Fault}
-use Rattle.plan9.specs.Notings.{writer}
+use Rattle.plan9.specs.Callers.{writer}
 use Rattle.plan9.specs.Streams.{WritesOnce}
 use Rattle.plan9.proofs.noting.write_unnoted.Goals as goal
 

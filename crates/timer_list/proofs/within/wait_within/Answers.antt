@@ -13,11 +13,11 @@ use Rattle.timer_list.proofs.within.wait_within.Goals as goal
 
 pub returns-in-Done-clause-waited : goal.returns-in-Done-clause-waited
 returns-in-Done-clause-waited g c =
-    inl (record { begun = c.in-Done.ensures.asked; timer = refl })
+    record { call = inl (record { begun = c.in-Done.ensures.asked; timer = refl }); stood = tt }
 
 pub returns-in-Refused-clause-waited : goal.returns-in-Refused-clause-waited
 returns-in-Refused-clause-waited g c =
-    inl (record { begun = c.in-Refused.ensures.asked; timer = refl })
+    record { call = inl (record { begun = c.in-Refused.ensures.asked; timer = refl }); stood = tt }
 
 pub sleep_for-ending-requires-clause-waits : goal.sleep_for-ending-requires-clause-waits
 sleep_for-ending-requires-clause-waits g c =
@@ -52,27 +52,33 @@ returns-in-Wait-clause-waited g c =
     let added : AsksTimers timers true (Add (number_of c.args.timer.now.seat) pid moment) Added
     c.args.timer.now set =
     rw (c.pid-pid.ensures, c.deadline.ensures) at c.add.ensures.asks in
-    inr (record {
-      first = told (g.C.WaitingCall.sight c.begin.new.seat c.begin.new.buffer) c.begin.new.proc
-          c.in-Wait.number;
-      set = set;
-      ending = c.sleep_for-ending.result;
-      process = c.sleep_for-ending.new.proc.process;
-      begun = c.in-Wait.ensures.asked;
-      added = added;
-      slept = c.sleep_for-ending.ensures.slept;
-      ended = ended;
-      taken = λ is. took_it timers moment pid c.args.timer.now set c.end_within.new.timer
-          c.requires.timer.opened added
-          (rw is at ended.cancelled);
-    })
+    record {
+      call = inr (record {
+        first = told (g.C.WaitingCall.sight c.begin.new.seat c.begin.new.buffer) c.begin.new.proc
+            c.in-Wait.number;
+        set = set;
+        ending = c.sleep_for-ending.result;
+        process = c.sleep_for-ending.new.proc.process;
+        begun = c.in-Wait.ensures.asked;
+        added = added;
+        slept = c.sleep_for-ending.ensures.slept;
+        ended = ended;
+        taken = λ is. took_it timers moment pid c.args.timer.now set c.end_within.new.timer
+            c.requires.timer.opened added
+            (rw is at ended.cancelled);
+      });
+      stood = record {
+        set = c.end_within.ensures.set ∙ c.add.ensures.set;
+        cancelled = c.end_within.ensures.cancelled;
+      };
+    }
 
 pub returns-in-Done-clause-is_call : goal.returns-in-Done-clause-is_call
-returns-in-Done-clause-is_call g c = untimed _ _ _ _ _ _ _ (returns-in-Done-clause-waited g c)
+returns-in-Done-clause-is_call g c = untimed _ _ _ _ _ _ _ (returns-in-Done-clause-waited g c).call
 
 pub returns-in-Refused-clause-is_call : goal.returns-in-Refused-clause-is_call
 returns-in-Refused-clause-is_call g c =
-    untimed _ _ _ _ _ _ _ (returns-in-Refused-clause-waited g c)
+    untimed _ _ _ _ _ _ _ (returns-in-Refused-clause-waited g c).call
 
 pub returns-in-Wait-clause-is_call : goal.returns-in-Wait-clause-is_call
-returns-in-Wait-clause-is_call g c = untimed _ _ _ _ _ _ _ (returns-in-Wait-clause-waited g c)
+returns-in-Wait-clause-is_call g c = untimed _ _ _ _ _ _ _ (returns-in-Wait-clause-waited g c).call

@@ -11,4 +11,7 @@ unreachable-requires g c =
 
 pub returns : goal.returns
 returns g c =
-    record { asks = rw c.number-number.ensures at (c.in-Added.ensures.asked false c.requires) }
+    record {
+      asks = rw c.number-number.ensures at (c.in-Added.ensures.asked false c.requires);
+      set = c.ask.ensures.marked.0;
+    }

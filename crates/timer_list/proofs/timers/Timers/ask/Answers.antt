@@ -7,6 +7,9 @@ use Rattle.timer_list.proofs.timers.Timers.ask.Goals as goal
 pub returns-clause-told : goal.returns-clause-told
 returns-clause-told g c set at =
     is_timed c.args.self.now set c.args.call c.apply.result c.args.seat.now
-    (record { seat = c.apply.new.seat }) at c.apply.ensures.history
-    (rw (names_it (seat_named c.args.call) _ _ at.mine c.requires.named at.shares_are) at
+    (record c.args.seat.now { seat = c.apply.new.seat }) at c.apply.ensures.history
+    (rw (
+      c.mark.ensures.seat,
+      names_it (seat_named c.args.call) _ _ at.mine c.requires.named at.shares_are,
+    ) at
     c.apply.ensures.served)

@@ -11,8 +11,16 @@ unreachable-requires g c =
 
 pub returns-in-Removed : goal.returns-in-Removed
 returns-in-Removed g c =
-    record { asks = rw c.number-number.ensures at (c.in-Removed.ensures.asked true c.requires) }
+    record {
+      asks = rw c.number-number.ensures at (c.in-Removed.ensures.asked true c.requires);
+      set = c.ask.ensures.marked.0;
+      cancelled = c.ask.ensures.marked.1;
+    }
 
 pub returns-in-Expired : goal.returns-in-Expired
 returns-in-Expired g c =
-    record { asks = rw c.number-number.ensures at (c.in-Expired.ensures.asked true c.requires) }
+    record {
+      asks = rw c.number-number.ensures at (c.in-Expired.ensures.asked true c.requires);
+      set = c.ask.ensures.marked.0;
+      cancelled = c.ask.ensures.marked.1;
+    }

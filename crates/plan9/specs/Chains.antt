@@ -1,0 +1,31 @@
+-- Seats of an object that were given one by another, of a semaphore or of a clock. Own.
+use Rattle.std.specs.Prelude.{◌≡◌, ◌<◌, ◌+◌, ℕ, List, [], ◌∷◌, ◌++◌, length}
+
+module _ {Seat : Type 0} (Gives : Seat → Seat → Seat → Type 0) where
+  -- each of these gave the next and no other, and the last of them gave the one that is left
+  abbrev pub Chain : List Seat → Seat → Seat → Type 0
+  Chain [] first last = last ≡ first
+  Chain (seat ∷ others) first last =
+      (next : Seat) × Gives first seat next × Chain others next last
+
+  module _ (IsFirst : Seat → Type 0) where
+    -- so many seats: the first one, and each other given by the one before it
+    pub record AreChained (count : ℕ) (seats : List Seat) : Type 0 where
+      pub count_is : length seats ≡ count
+      pub first : Seat
+      pub first_is : IsFirst first
+      pub givers : List Seat
+      pub last : Seat
+      pub chain : Chain givers first last
+      pub seats_are : seats ≡ givers ++ last ∷ []
+
+    -- the first one was there, fewer than so many were given, and then the last could give none
+    pub record RunsOut (KnowsNone : Seat → Seat → Type 0) (count : ℕ) : Type 0 where
+      pub first : Seat
+      pub first_is : IsFirst first
+      pub givers : List Seat
+      pub before : Seat
+      pub after : Seat
+      pub chain : Chain givers first before
+      pub fewer : length givers + 1 < count
+      pub none : KnowsNone before after
