@@ -12,7 +12,7 @@ import time
 from __main__ import NAME, PROGRAMS, TOP, Program, cant, fail, on_path, say, text_of
 
 # A first build by the clock, on four processors: of p9sync as docs/TIMES.md has it, of the others estimates.
-TAKES = {"p9sync": "8 to 16 minutes", "p9explore": "20 to 30 minutes", "p9lab": "30 to 50 minutes"}
+TAKES = {"p9sync": "8 to 20 minutes", "p9explore": "20 to 30 minutes", "p9lab": "30 to 50 minutes"}
 
 
 class Stopped(Exception):
