@@ -51,7 +51,7 @@ impl Announced {
         }
     }
 
-    // The thread has slept and has the lock: the mark is for others.
+    // The thread has slept, so the mark is for others. That it has the lock is read in `take`.
     fn again(self, attempt: Attempt) -> Again
         requires { attempt.slept ≡ true }
     {
@@ -98,7 +98,7 @@ pub(crate) struct Taken {
     announced: Announced,
 }
 
-/// A thread that has slept, and has the lock, has set the mark again.
+/// A thread that has slept has set the mark again. No clause says that it has the lock by then.
 #[derive(Drop)]
 pub(crate) struct Again {
     marker: (),

@@ -89,6 +89,7 @@ watched_sleeper proc watch = run_point tt watch.seat proc
 
 -- ---- a call with a watch
 
--- it waits until this moment, at the timers of the watch, and has its timer whenever it sleeps
+-- it waits until this moment, at the timers of the watch, with its timer set before its sleeps for
+-- its device and cancelled after them
 abbrev pub until : Watching → ℕ → Runs TimerSeat
 until watch moment = timed_throughout watch.timers moment

@@ -226,7 +226,7 @@ impl<'t> Watch<'t> {
         ensures watch_there { rendez_of proc.old.words ≤ rendez.0 → self.new ≡ self.old }
         ensures watch_level { TOP_LEVEL ≤ threshold → self.new ≡ self.old }
 
-        // Else it slept, with its timer set.
+        // Else it did not have to wait, or it set its timer, slept, and cancelled the timer.
         ensures slept { rendez.0 < rendez_of proc.old.words → threshold < TOP_LEVEL
             → TimedThroughout (sleeping threshold) rendez self.old.timers (deadline_of now ms)
             (watched_sleeper proc.old self.old) result (watched_sleeper proc.new self.new) }

@@ -1,5 +1,6 @@
 //! The place of a shared read end between two turns, and the calls of the end that lies there. Each
-//! process that takes the end up lays it down again, and its receipt shows that.
+//! call that takes the end up lays it down again, and has a receipt of what it laid down. No clause
+//! ties a receipt to the place: that `put` alone makes one is read in this file.
 ghost use Rattle.std.specs.Prelude.{◌≡◌, IfSome};
 ghost use Rattle.pipe_dev.specs.Ends.{IsSameReadEnd};
 ghost use Rattle.plan9.specs.Places.{IsLaid, Swaps, end_in};
@@ -40,7 +41,7 @@ struct TakenUp<'p> {
     end: ReadEnd<'p>,
 }
 
-/// What was put into the place of the end. `put` alone makes it.
+/// What was put into the place of the end. `put` makes it, and no other file can.
 #[derive(Drop)]
 pub(crate) struct Receipt<'p> {
     what: Snapshot<Option<Lying<'p>>>,

@@ -2,7 +2,8 @@
 -- After tsemacquire in semacquire(2) and tsleep of the kernel. Own: the ticks, the wait for a note
 -- `expired` where a tick took the timer, and which notes are put back. The steps of a process and
 -- the requests at its timers are two histories: a timer's seat keeps where the process was when it
--- set the timer and when it cancelled it, and so the timer stood while the process slept.
+-- set the timer last and when it cancelled it last. So the timer is set before the sleeps for the
+-- device and cancelled after them. The sleeps for the tick's note come after that.
 use Rattle.std.specs.Prelude.{◌≡◌, ◌≢◌, ◌⊎◌, ⊤, ℕ, zero, suc, Bool, true, false, Some, None}
 use Rattle.std.specs.Prelude.{Result, Ok, Err}
 use Rattle.std.proofs.Common.{inl, inr}
@@ -174,20 +175,23 @@ module _ {Seat Out : Type 0} (promise : Promise Seat Out) (rendez : RendezId) (t
   TimedCall before answer after =
       BegunAtOnce before answer after ⊎ TimedWait before answer after
 
-  -- where it waited, its timer stood from before its first sleep until after its last
+  -- where it waited for its device, its timer was set last before the first sleep for that, and
+  -- cancelled last after the last such sleep
   abbrev pub StoodMeanwhile : (before : TimedPoint Seat) (answer : Result Out Fault)
       (after : TimedPoint Seat) → TimedCall before answer after → Type 0
   StoodMeanwhile before answer after (inl at_once) = ⊤
   StoodMeanwhile before answer after (inr waits) =
       Stood after.timer waits.first.at.process waits.process
 
-  -- A call until this moment that has a timer whenever it sleeps.
+  -- A call until this moment, with its timer set before its sleeps for its device and cancelled
+  -- after them. A tick may take the timer in between.
   pub record TimedThroughout (before : TimedPoint Seat) (answer : Result Out Fault)
       (after : TimedPoint Seat) : Type 0 where
     pub call : TimedCall before answer after
     pub stood : StoodMeanwhile before answer after call
 
--- it waits until this moment at these timers, with a timer whenever it sleeps
+-- it waits until this moment at these timers, with its timer set before its sleeps for its device
+-- and cancelled after them
 abbrev pub timed_throughout : Timers → ℕ → Runs TimerSeat
 timed_throughout timers moment =
     record { ran = λ promise rendez. TimedThroughout promise rendez timers moment }

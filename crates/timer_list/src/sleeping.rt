@@ -53,7 +53,7 @@ impl Timers {
         ensures timer_there { rendez_of proc.old.words ≤ rendez.0 → timer.new ≡ timer.old }
         ensures timer_level { TOP_LEVEL ≤ threshold → timer.new ≡ timer.old }
 
-        // Else it slept, with its timer set.
+        // Else it did not have to wait, or it set its timer, slept, and cancelled the timer.
         ensures slept { rendez.0 < rendez_of proc.old.words → threshold < TOP_LEVEL
             → TimedThroughout (sleeping threshold) rendez self.now (deadline_of now ms)
             (run_point tt timer.old proc.old) result (run_point tt timer.new proc.new) }

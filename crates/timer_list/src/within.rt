@@ -74,13 +74,14 @@ impl<'t> Runner for Deadline<'t> {
 /// Makes a call, as `wait_for` of `waiting` does, with a deadline for its wait. After tsemacquire
 /// in semacquire(2) and tsleep of the kernel; the tick is the library's own.
 ///
-/// A call that has to wait sets its timer before it sleeps first, and cancels it when it has slept
-/// last: it has a timer whenever it sleeps. Where notes end its wait, and it has come to no
-/// result by then, it is refused as `TimedOut` where a tick took its timer and no other note came,
-/// and else as `Interrupted` with the other notes. With any other answer, other notes that came are
-/// pending again. Where a tick has taken its timer, it takes a note `expired` before it answers: so
-/// no late expiry reaches a later sleep, unless others post that note. The probe is called at its
-/// points: 2 before each sleep of the call, and 3 after it. It waits for the timers' lock. Takes no
+/// A call that has to wait sets its timer before its first sleep for its device, and cancels it
+/// after the last one; a tick may take it in between. Where notes end its wait, and it has come to
+/// no result by then, it is refused as `TimedOut` where a tick took its timer and no other note
+/// came, and else as `Interrupted` with the other notes. With any other answer, other notes that
+/// came are pending again. Where a tick has taken its timer, it takes a note `expired` before it
+/// answers: so no late expiry reaches a later sleep, unless others post that note. It may sleep for
+/// that note, after the cancel, and no timer ends these sleeps. The probe is called at its points:
+/// 2 before each sleep for the device, and 3 after it. It waits for the timers' lock. Takes no
 /// memory of its own.
 pub fn wait_within<R: Wait, C: WaitingCall, P: Probe>(
     rt: &R,
