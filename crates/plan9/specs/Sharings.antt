@@ -132,7 +132,7 @@ pub record CallsShared (end : ReadSide) (old : Running) (Call : Reader → Reade
   pub called : Call (reader lay old) (reader lies new)
   pub words_are : new.words ≡ old.words
 
--- and the end as it was after the call was laid down
+-- and a receipt says that the end was laid down as it was after the call
 pub record CallsAndLays (end : ReadSide) (old : Running) (Call : Reader → Reader → Type 0)
     (laid : Receipt) (new : Running) : Type 0 where
   pub calls : CallsShared end old Call new
