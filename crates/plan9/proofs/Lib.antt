@@ -17,5 +17,6 @@ mod WorkedSemaphores
 mod WorkedSharings
 mod WorkedStreams
 mod WorkedTickers
+mod WorkedTimedSharings
 mod WorkedWatches
 mod WorkedWithin

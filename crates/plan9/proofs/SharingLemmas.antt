@@ -20,6 +20,7 @@ use Rattle.plan9.specs.Semaphores.{Seated, IsSameSeat}
 use Rattle.plan9.specs.Sharings.{AsksForTurn, AsksNow, Buffers, CallsAndLays, HasTurn, InTurn}
 use Rattle.plan9.specs.Sharings.{KnowsTurns, ReadsOnce, Sharer, TriesBy, TriesInTurn, TriesOnce}
 use Rattle.plan9.specs.Sharings.{Turn, turn}
+use Rattle.plan9.specs.TimedSharings.{EndCall, HasTimedTurn, InTimedTurn, WatchedSharer}
 use Rattle.plan9.proofs.ReadingLemmas.{piece_lies}
 
 -- a call of the end that lay there is one of the shared end, as it has the same direction; and
@@ -89,6 +90,14 @@ pub has_turn : (Call : Buffers → Result ReadAnswer Fault → Reader → Reader
     → HasTurn (AsksForTurn (Ok tt)) old (Call buffer answer) new → InTurn Call old buffer answer new
 has_turn Call old buffer (Ok answer) new turn = turn
 has_turn Call old buffer (Err why) new turn = inr (inr turn)
+
+-- and so where it waited until a moment
+pub has_timed_turn : (moment : ℕ) (Call : EndCall) (old : WatchedSharer) (buffer : Buffers)
+    (answer : Result ReadAnswer Fault) (new : WatchedSharer)
+    → HasTimedTurn moment old (λ watch. Call watch buffer answer) new
+    → InTimedTurn moment Call old buffer answer new
+has_timed_turn moment Call old buffer (Ok answer) new turn = turn
+has_timed_turn moment Call old buffer (Err why) new turn = inr (inr turn)
 
 -- and so where it waited for none
 pub has_turn_now : (old : Sharer) (buffer : Buffers) (answer : Result TryAnswer Fault)

@@ -15,6 +15,7 @@ pub mod Readings
 pub mod Sharings
 pub mod Streams
 pub mod Within
+pub mod TimedSharings
 pub mod Tickers
 pub mod Memberships
 pub mod MemberForks

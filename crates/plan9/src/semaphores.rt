@@ -96,6 +96,13 @@ impl Semaphore {
         })
     }
 
+    /// How many processes may call it.
+    pub(crate) fn procs(&self) -> u64
+        ensures { result ≡ self.now.sema.procs }
+    {
+        self.procs
+    }
+
     /// Whether nobody has had the first seat. Takes no memory and doesn't wait.
     pub fn has_seat(&self) -> bool
         ensures { result ≡ true ↔ ¬ (self.now.spare ≡ None) }
