@@ -1,5 +1,5 @@
 -- What is no call of a shared end until a moment: each against one row.
-use Rattle.std.proofs.Common.{◌≡◌, ◌≢◌, ℕ, Result, Ok, Err, inl, inr}
+use Rattle.std.proofs.Common.{◌≡◌, ℕ, Result, Ok, Err, inl, inr}
 use Rattle.sync_base.specs.declared.fault.Fault.{Fault}
 use Rattle.semaphore.specs.Timing.{AcquiresBy}
 use Rattle.pipe_dev.specs.declared.answers.ReadAnswer.{ReadAnswer}
@@ -63,5 +63,5 @@ module _ (moment : ℕ) (old new : WatchedSharer) where
         → ¬ HasTimedTurn moment old (λ watch. Call watch buffer (Err why)) new
         → ¬ InTimedTurn moment Call old buffer (Err why) new
     refused_for_no_reason why may none had (inl not) = may not
-    refused_for_no_reason why may none had (inr (inl no)) = none no
+    refused_for_no_reason why may none had (inr (inl not)) = none not
     refused_for_no_reason why may none had (inr (inr turn)) = had turn

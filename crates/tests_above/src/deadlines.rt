@@ -180,10 +180,11 @@ fn ends_first<R: Wait + Abort>(
     assert_eq!(rt; watch.tick(rt, proc, moment), 1);
 }
 
-// Ends its second call by a note.
+// Ends its second call by a note, and waits for its end: till then its timer is set.
 fn ends_second<R: Wait + Abort>(rt: &R, proc: &mut Proc<'_>, stay: &Stay<'_>) {
     stay.awaits(rt, 1);
     assert_eq!(rt; proc.postnote(stay.pid, NoteSet::of(NOTED)), Ok(()));
+    stay.awaits_end(rt, 2);
 }
 
 fn ends_two<R: Wait + Abort>(rt: &R, host: &mut Writer<'_, '_, '_>, stay: &Stay<'_>, moment: u64) {
@@ -533,7 +534,6 @@ fn hosts_long<R: Wait + Abort>(
     assert_eq!(rt; drains(rt, alloc, &mut end, &mut proc, 2), 2 * ATOMIC_SIZE);
     stay.read.fetch_add(1, SeqCst);
     ends_second(rt, &mut proc, stay);
-    stay.awaits_end(rt, 2);
     assert_eq!(rt; drains(rt, alloc, &mut end, &mut proc, 2), 2 * ATOMIC_SIZE);
     stay.read.fetch_add(1, SeqCst);
     stay.awaits(rt, 2);

@@ -1,6 +1,7 @@
 -- one seat more is given; or the last can give none, or is the last of them
-use Rattle.std.proofs.Common.{arith, refl}
-use Rattle.plan9.proofs.ChainLemmas.{chain_and_one, one_longer}
+use Rattle.std.proofs.Common.{◌≡◌, arith, refl}
+use Rattle.plan9.specs.Chains.{RunsOut}
+use Rattle.plan9.proofs.ChainLemmas.{chain_and_one, one_longer, told_as}
 use Rattle.plan9.proofs.many.split_into.Goals as goal
 
 pub splitting-preserved : goal.splitting-preserved
@@ -46,7 +47,9 @@ pub returns-in_err-next-clause-out : goal.returns-in_err-next-clause-out
 returns-in_err-next-clause-out g c =
     let counted = c.splitting.invariant.counted in
     let below = c.splitting-test.true in
-    record {
+    told_as (λ why. RunsOut g.S.Splits.gives (λ one. one ≡ c.args.first) g.S.Splits.knows_none
+    c.args.count) c.in_err-next.field-0.0 c.from_residual.result c.from_residual.ensures.1
+    (record {
       first = c.args.first;
       first_is = refl;
       givers = c.splitting.list.items;
@@ -55,4 +58,4 @@ returns-in_err-next-clause-out g c =
       chain = c.splitting.invariant.chain;
       fewer = omega (arith, counted, below);
       none = c.in_err-next.ensures.refused;
-    }
+    })

@@ -2,7 +2,8 @@
 use Rattle.timer_list.specs.Timers.{deadline_of}
 use Rattle.plan9.specs.Sharings.{buffers, turn}
 use Rattle.plan9.specs.TimedSharings.{ReadsOnceWithin, watched_sharer}
-use Rattle.plan9.proofs.SharingLemmas.{has_timed_turn, may_still, who_asked_may}
+use Rattle.plan9.proofs.SharingLemmas.{has_no_timed_turn, has_timed_turn}
+use Rattle.plan9.proofs.SharingLemmas.{may_still, who_asked_may}
 use Rattle.plan9.proofs.shares.Share.read_within.Goals as goal
 
 pub returns-clause-turn : goal.returns-clause-turn
@@ -33,3 +34,12 @@ returns-clause-turn g c =
         };
       };
     }
+
+pub returns-in_err-acquire_within-clause-turn : goal.returns-in_err-acquire_within-clause-turn
+returns-in_err-acquire_within-clause-turn g c =
+    let moment = deadline_of c.args.now c.args.ms in
+    has_no_timed_turn moment (ReadsOnceWithin moment)
+    (watched_sharer c.args.self.now c.args.proc.now c.args.watch.now) c.args.buffer.now
+    c.in_err-acquire_within.field-0.0 c.from_residual.result c.acquire_within.new.self
+    c.acquire_within.new.proc c.acquire_within.new.watch c.from_residual.ensures.1
+    c.in_err-acquire_within.ensures.known
