@@ -1,5 +1,5 @@
-//! Many seats at once, in the widest sense: seats of a semaphore, watches of a clock, members of a
-//! tag space or shares of an end. The first one, and each other split from the one before it.
+//! Many of a kind at once, as the shares of an end: the first one, and each other split from the
+//! one before it.
 ghost use Rattle.std.specs.Prelude.{◌≡◌, ◌≤◌, ◌<◌, [], IfOk, IfErr, OnOk, OnErr};
 ghost use Rattle.std.specs.Vec.{vec_capacity};
 ghost use Rattle.sync_base.specs.declared.fault.Fault.TheVariants.{NoProc};
