@@ -1,8 +1,7 @@
-//! A print spooler. Six clients submit jobs by one pipe, with a deadline for each. A spooler hands
-//! the jobs on to two printers, under a semaphore whose units say how many are free, and a printer
-//! meets the client of the job that it has printed. The spooler holds one job back, and an operator
-//! cancels its client by a note. A supervisor starts, ends and joins them all, also where one can't
-//! be started. Each of them is one process.
+//! A print spooler. Six clients submit jobs by a pipe, with a deadline for each. A spooler hands
+//! them on to two printers, under a semaphore that counts the free ones, and a printer meets the
+//! client whose job it has printed. One job is held back, and an operator cancels its client by a
+//! note. A supervisor starts, ends and joins all others. Each of them is one process.
 #![tactic(auto)]
 
 use plan9::{
@@ -99,8 +98,7 @@ struct Client<'p, 's, 'k> {
 }
 
 impl<'p, 's, 'k> Client<'p, 's, 'k> {
-    /// Submits a job, and meets its printer, both until one deadline. Returns how many pages were
-    /// printed.
+    /// Submits a job and meets its printer, both by one deadline. Returns the pages it printed.
     fn submit<R: Wait>(&mut self, rt: &R, alloc: Global, now: u64, job: Job) -> Result<u64, Fault> {
         let Client { number, me, jobs } = self;
         let (proc, watch, tag) = (&mut me.proc, &mut me.watch, Tag(u64::from(*number)));
@@ -142,17 +140,17 @@ struct Spooler<'p, 's, 'k> {
 /// back at the operator's desk.
 fn spool<R: Wait>(rt: &R, alloc: Global, spooler: &mut Spooler<'_, '_, '_>) -> Outcome {
     let (mut seen, mut job) = (Totals::default(), [0; 2]);
-    let proc = &mut spooler.me.proc;
+    let (me, desk) = (&mut spooler.me, spooler.desk);
     for _ in rt.forever() {
-        if spooler.jobs.read(rt, proc, &mut job)? == ReadAnswer::End {
+        if spooler.jobs.read(rt, &mut me.proc, &mut job)? == ReadAnswer::End {
             break;
         }
         if job == HELD {
-            proc.wakeup(spooler.desk, 1)?;
+            me.proc.wakeup(desk, 1)?;
             continue;
         }
-        spooler.me.free.acquire(rt, proc)?;
-        spooler.printing.write(alloc, rt, proc, &job)?;
+        me.free.acquire(rt, &mut me.proc)?;
+        spooler.printing.write(alloc, rt, &mut me.proc, &job)?;
         seen.handed_on.add(job);
     }
     Ok(seen)
@@ -175,8 +173,7 @@ fn print<R: Wait + Now>(rt: &R, me: &mut Party<'_, '_, '_>, time: &RealTime) -> 
     Ok(seen)
 }
 
-/// The operator waits at the desk for word of the job that is held back, and then cancels its
-/// client, unless a note ends the wait.
+/// The operator waits for word of the job that is held back, and cancels its client, or for a note.
 fn operate<R: Wait>(rt: &R, proc: &mut Proc<'_>, desk: RendezId, whom: Pid) -> Result<(), Fault> {
     match proc.sleep(rt, desk, 0) {
         Ok(()) => proc.postnote(whom, NoteSet::of(Note::Interrupt)),
@@ -286,14 +283,14 @@ fn run_all<R: Threads + Wait + Now + Sync>(
 fn hire<'p, 's, 'k, R: Wait>(
     rt: &R,
     boss: &mut Supervisor<'p, 's, 'k>,
-    submits: Vec<WriteEnd<'p>>,
+    asks: Vec<WriteEnd<'p>>,
     printers: &mut Vec<Party<'p, 's, 'k>>,
     clients: &mut Vec<Client<'p, 's, 'k>>,
 ) -> Result<(), Fault> {
     for _ in 0..PRINTERS {
         printers.push(boss.child(rt)?)?;
     }
-    for (number, jobs) in (0..).zip(submits) {
+    for (number, jobs) in (0..).zip(asks) {
         let me = boss.child(rt)?;
         clients.push(Client { number, me, jobs })?;
     }
@@ -310,15 +307,6 @@ struct Objects<'p> {
 }
 
 impl<'p> Objects<'p> {
-    fn new(alloc: Global, roster: &mut Roster<'_>, end: ReadEnd<'p>) -> Result<Objects<'p>, Fault> {
-        Ok(Objects {
-            printing: SharedEnd::new(alloc, roster, end, PARTIES)?,
-            free: Semaphore::new(alloc, roster, PRINTERS as u32, PARTIES)?,
-            window: Space::new(alloc, roster, PARTIES)?,
-            clock: Clock::new(alloc, PARTIES)?,
-        })
-    }
-
     /// The first places, for the first process.
     fn party<'s, 'k>(&'s mut self, proc: Proc<'k>) -> Result<Party<'p, 's, 'k>, Fault> {
         Ok(Party {
@@ -336,14 +324,13 @@ fn open<'p, R: Threads + Wait + Now + Sync>(
     rt: &R,
     alloc: Global,
     jobs: Ends<'p>,
-    mut printing: Vec<WriteEnd<'p>>,
+    mut ends: Vec<WriteEnd<'p>>,
     objects: &mut Objects<'p>,
     started: Started<'_>,
 ) -> Outcome {
     let Ends { first, second } = jobs;
-    let mut submits = second.parts().writes;
-    let (Some(jobs), Some(last), Some(printing)) = (submits.pop(), printing.pop(), printing.pop())
-    else {
+    let mut asks = second.parts().writes;
+    let (Some(jobs), Some(last), Some(printing)) = (asks.pop(), ends.pop(), ends.pop()) else {
         return Err(Fault::BadSize);
     };
     let Started { mut roster, proc } = started;
@@ -362,8 +349,26 @@ fn open<'p, R: Threads + Wait + Now + Sync>(
         desk,
     };
     let (mut printers, mut clients) = (Vec::new(alloc), Vec::new(alloc));
-    hire(rt, boss, submits, &mut printers, &mut clients)?;
+    hire(rt, boss, asks, &mut printers, &mut clients)?;
     run_all(rt, alloc, boss, spooler, printers, clients)
+}
+
+fn equip<'p, R: Threads + Wait + Now + Sync>(
+    rt: &R,
+    alloc: Global,
+    jobs: Ends<'p>,
+    printing: Ends<'p>,
+    mut started: Started<'_>,
+) -> Outcome {
+    let Ends { first, second } = printing;
+    let (read, writes) = (first.parts().read, second.parts().writes);
+    let objects = &mut Objects {
+        printing: SharedEnd::new(alloc, &mut started.roster, read, PARTIES)?,
+        free: Semaphore::new(alloc, &mut started.roster, PRINTERS as u32, PARTIES)?,
+        window: Space::new(alloc, &mut started.roster, PARTIES)?,
+        clock: Clock::new(alloc, PARTIES)?,
+    };
+    open(rt, alloc, jobs, writes, objects, started)
 }
 
 /// A pipe goes both ways; here one way of each is used.
@@ -372,12 +377,10 @@ fn run<R: Threads + Wait + Now + Sync>(rt: &R, alloc: Global) -> Outcome {
     let plan = plan.semaphore(PARTIES).semaphore(PARTIES).space(PARTIES);
     let OpenedKernel { kernel, start } = plan.build(alloc)?;
     let mut started = kernel.start(start);
-    let OpenedPipe { pipe: jobs, start } = Pipe::new(alloc, &mut started.roster, 4, CLIENTS + 1)?;
-    let jobs = jobs.ends(start);
+    let OpenedPipe { pipe, start } = Pipe::new(alloc, &mut started.roster, 4, CLIENTS + 1)?;
+    let jobs = pipe.ends(start);
     let OpenedPipe { pipe, start } = Pipe::new(alloc, &mut started.roster, 1, 2)?;
-    let Ends { first, second } = pipe.ends(start);
-    let objects = &mut Objects::new(alloc, &mut started.roster, first.parts().read)?;
-    open(rt, alloc, jobs, second.parts().writes, objects, started)
+    equip(rt, alloc, jobs, pipe.ends(start), started)
 }
 
 fn main(rt: HostRuntime) -> std::io::Result<()> {
