@@ -248,7 +248,8 @@ long_so call words old new long no_rendez wrote = by (owns_or_not words call.row
     by (inr foreign) =
         let none = no_rendez foreign in
         let first = some_write call.bytes in (
-          λ is. let same : Some fault.NoRendez ≡ Some fault.TooBig = sym (ap (λ (l : Long). l.fault) none.long_is) ∙ is in cc,
+          λ is. let same : Some fault.NoRendez ≡ Some fault.TooBig =
+              sym (ap (λ (l : Long). l.fault) none.long_is) ∙ is in cc,
           (λ is. foreign, λ other. ap (λ (l : Long). l.fault) none.long_is),
           subst (λ (l : Long). WritesLong call old.at l new.at) (sym none.long_is)
               (record {

@@ -89,7 +89,8 @@ module _ (key : Key) (row : Row) (old new : Calling) (answer : Result ReadAnswer
 
 -- a read of a block was not run on the reader's Rendez, or was no call
 module _ (key : Key) (row : Row) (old new : Calling) (answer : Result ReadAnswer Fault) where
-  reads_a_block_in_no_way : {Timer : Type 0} (runs : Runs Timer) (first last : RunPoint Timer Lending)
+  reads_a_block_in_no_way : {Timer : Type 0} (runs : Runs Timer)
+      → (first last : RunPoint Timer Lending)
       → ¬ runs.ran (block_reading key row) (reader_rendez row) first answer last
       → ¬ ReadsBlockBy runs key row first answer last
   reads_a_block_in_no_way runs first last ran reads = ran reads

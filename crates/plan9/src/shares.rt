@@ -98,8 +98,8 @@ impl<'p> SharedEnd<'p> {
         Ok(Share { seat, place })
     }
 
-    /// This many shares, in the order of their numbers: the first one, and each other split from the
-    /// one before it. Refuses, in this order, as `NoProc` where the count is 0 or above the
+    /// This many shares, in the order of their numbers: the first one, and each other split from
+    /// the one before it. Refuses, in this order, as `NoProc` where the count is 0 or above the
     /// processes that may share the end, as `Memory`, and as `NoProc` where somebody had the first
     /// share before. Takes memory for the list, and waits for the semaphore's lock.
     pub fn shares<'s, R: Wait>(

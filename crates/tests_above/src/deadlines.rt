@@ -360,12 +360,17 @@ fn read_until_moments<R: Threads + Wait + Abort + Sync>(rt: &R, alloc: Global, b
     share_until(rt, alloc, three, &stays);
 }
 
+// An end that two may share; once more where memory was refused.
 fn shared_of<'p>(
     rt: &impl Abort,
     alloc: Global,
     roster: &mut Roster<'_>,
     end: ReadEnd<'p>,
 ) -> SharedEnd<'p> {
+    let end = match SharedEnd::new(alloc, roster, end, 2) {
+        Ok(shared) => return shared,
+        Err(refused) => refused.end,
+    };
     match SharedEnd::new(alloc, roster, end, 2) {
         Ok(shared) => shared,
         Err(_) => panic!(rt; "no turns"),
@@ -382,23 +387,48 @@ fn a_share_reads_blocks_until_a_moment(rt: HostRuntime) {
     read_until_moments(&rt, rt.alloc(), true);
 }
 
-// How many shares come, and how many more there are.
+// Refused at 0 and above the processes, and where memory is refused, with the first share still
+// there. Else both are given, and it says so.
+fn both_come<R: Wait + Abort>(rt: &R, alloc: Global, shared: &mut SharedEnd<'_>) -> bool {
+    for count in [0, 3] {
+        assert_eq!(rt; shared.shares(alloc, rt, count).err(), Some(Fault::NoProc));
+        assert!(rt; shared.has_share());
+    }
+    match shared.shares(alloc, rt, 2) {
+        Ok(shares) => {
+            assert_eq!(rt; shares.len(), 2);
+            true
+        }
+        Err(fault) => {
+            assert_eq!(rt; fault, Fault::Memory);
+            false
+        }
+    }
+}
+
+// Gives both shares, once more where memory was refused; then none is left.
+fn give_both<R: Wait + Abort>(rt: &R, alloc: Global, shared: &mut SharedEnd<'_>) {
+    if !both_come(rt, alloc, shared) {
+        assert!(rt; both_come(rt, alloc, shared));
+    }
+    assert!(rt; !shared.has_share());
+    assert_eq!(rt; shared.shares(alloc, rt, 1).err(), Some(Fault::NoProc));
+}
+
+fn share_one_end<R: Wait + Abort>(rt: &R, alloc: Global, started: Started<'_>) {
+    let Started {
+        mut roster,
+        proc: _,
+    } = started;
+    let OpenedPipe { pipe, start } = pipe_of(rt, alloc, &mut roster, 4, 1);
+    let Pair { read, write: _ } = pair_of(rt, pipe.ends(start));
+    give_both(rt, alloc, &mut shared_of(rt, alloc, &mut roster, read));
+}
+
 #[test]
 fn all_shares_come_or_none(rt: HostRuntime) {
-    let alloc = rt.alloc();
-    let OpenedKernel { kernel, start } = kernel_of(&rt, alloc, 1, 8);
-    let mut started = kernel.start(start);
-    let OpenedPipe { pipe, start } = pipe_of(&rt, alloc, &mut started.roster, 4, 1);
-    let Pair { read, write: _ } = pair_of(&rt, pipe.ends(start));
-    let mut shared = shared_of(&rt, alloc, &mut started.roster, read);
-    for count in [0, 3] {
-        assert_eq!(&rt; shared.shares(alloc, &rt, count).err(), Some(Fault::NoProc));
-        assert!(&rt; shared.has_share());
-    }
-    let shares = shared.shares(alloc, &rt, 2).expect(&rt, "two shares");
-    assert_eq!(&rt; shares.len(), 2);
-    drop(shares);
-    assert_eq!(&rt; shared.shares(alloc, &rt, 1).err(), Some(Fault::NoProc));
+    let OpenedKernel { kernel, start } = kernel_of(&rt, rt.alloc(), 1, 8);
+    share_one_end(&rt, rt.alloc(), kernel.start(start));
 }
 
 /// Two processes, one at each end of a direction.

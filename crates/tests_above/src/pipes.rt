@@ -16,7 +16,8 @@ use std::sync::atomic::Ordering::SeqCst;
 use std::sync::atomic::{AtomicBool, AtomicU64};
 use std::thread::{self, Threads, yield_now};
 
-/// A pipe of this limit, with this many writers in each direction.
+/// A pipe of this limit, with this many writers in each direction; once more where memory was
+/// refused.
 pub fn pipe_of<'p>(
     rt: &impl Abort,
     alloc: Global,
@@ -26,7 +27,11 @@ pub fn pipe_of<'p>(
 ) -> OpenedPipe<'p>
     ensures start { IsPipeStart result.pipe result.start }
 {
-    Pipe::new(alloc, roster, limit, writers).expect(rt, "no pipe")
+    let made = match Pipe::new(alloc, roster, limit, writers) {
+        Err(Fault::Memory) => Pipe::new(alloc, roster, limit, writers),
+        made => made,
+    };
+    made.expect(rt, "no pipe")
 }
 
 /// A process with a read end.
