@@ -4,8 +4,8 @@
 //! what every call speaks of; a kernel and its processes, with `plan` and `forking`; faults in
 //! words, with `texts`; pipes, with `pipes`, `ends`, `noting`, `shares`, `place`, `alone` and
 //! `streams`; semaphores, with `semaphores`; clocks, with `clock` and `ticker`; tag spaces, with
-//! `spaces` and `rforking`; `known`, by which these test who calls; `many`, by which an end gives many
-//! shares at once; and what else a caller may prove.
+//! `spaces` and `rforking`; `known`, by which these test who calls; `many`, by which an end gives
+//! many shares at once; and what else a caller may prove.
 #![tactic(auto)]
 
 mod alone;
