@@ -1,0 +1,3 @@
+mod AskLemmas
+mod LawLemmas
+mod Worked

@@ -1,0 +1,13 @@
+-- What a call does by whether the process may make it: it may where its kernel has the Rendez of
+-- what it calls. Own; in Plan 9 there is one kernel.
+use Rattle.std.specs.Prelude.{◌↔◌, Result, IsErrOf}
+use Rattle.sync_base.specs.declared.fault.Fault.{Fault}
+use Rattle.sync_base.specs.declared.fault.Fault.TheVariants.{NoRendez}
+
+-- It is refused as `NoRendez` just where the process may not make it, and then nothing is done;
+-- else it is the call.
+pub record IfKnown {A : Type 0} (May : Type 0) (answer : Result A Fault)
+    (Nothing Called : Type 0) : Type 0 where
+  pub no_rendez : IsErrOf answer NoRendez ↔ ¬ May
+  pub refused : ¬ May → Nothing
+  pub called : May → Called

@@ -1,0 +1,10 @@
+pub mod Asking
+pub mod Handles
+pub mod HangingUp
+pub mod History
+pub mod Known
+pub mod MessageLaws
+pub mod MessageObject
+pub mod Opening
+pub mod Receiving
+pub mod Sending

@@ -1,0 +1,7 @@
+//! The limits of a queue of values.
+
+/// The most values that a queue holds. The least is 1.
+pub const MAX_CAPACITY: u64 = 1_048_576;
+
+/// The fewest handles that a queue has: a sender and a receiver.
+pub const MIN_HANDLES: u64 = 2;
