@@ -2,18 +2,12 @@
 use Rattle.std.specs.Prelude.{◌≡◌, ◌⊎◌, ⊤, Option, Some, None}
 use Rattle.kernel_lock.specs.Seats.{Splits, KnowsAllGiven, number_of}
 use Rattle.rendez_words.specs.declared.words.Words.{Words}
-use Rattle.semaphore.specs.declared.sema.Sema.{Sema}
 use Rattle.semaphore.specs.declared.sema.SemaSeat.{SemaSeat}
 use Rattle.semaphore.specs.Seats.{IsSemaSeatOf, OwnsRow}
 use Rattle.waiting.specs.Waiting.{Point}
 use Rattle.messages.specs.declared.channel.Channel.{Channel}
 use Rattle.messages.specs.declared.channel.Place.{Place}
 use Rattle.messages.specs.Asking.{IsValueSeatOf}
-
--- the Rendez of this semaphore are this many from this one on
-pub record IsRowOf (sema : Sema) (first procs : ℕ) : Type 0 where
-  pub first_is : sema.first ≡ first
-  pub procs_are : sema.procs ≡ procs
 
 -- a queue, and the seats of a handle at its values, at its room and at its units of values
 pub record Handle (T : Type 0) : Type 0 where

@@ -7,4 +7,5 @@ pub mod MessageLaws
 pub mod MessageObject
 pub mod Opening
 pub mod Receiving
+pub mod Rows
 pub mod Sending

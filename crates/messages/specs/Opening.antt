@@ -1,7 +1,6 @@
 -- What a new queue of values is.
 use Rattle.std.specs.Prelude.{◌≡◌, ◌≤◌, ℕ, ◌*◌, Some}
 use Rattle.kernel_lock.specs.Seats.{IsFirstSeat, opening_of}
-use Rattle.sleep_core.specs.Limits.{IsProcCount}
 use Rattle.sleep_wakeup.specs.Kernel.{Unused, HasRendez, rendez_less}
 use Rattle.sync_base.specs.declared.fault.Fault.{Fault}
 use Rattle.sync_base.specs.declared.fault.Fault.TheVariants as fault
@@ -9,7 +8,7 @@ use Rattle.sync_base.specs.declared.limits.TheConstants.{MAX_PROCS}
 use Rattle.semaphore.specs.Seats.{IsNewSema}
 use Rattle.messages.specs.declared.channel.Place.{Place}
 use Rattle.messages.specs.declared.limits.TheConstants.{MAX_CAPACITY, MIN_HANDLES}
-use Rattle.messages.specs.Handles.{Holding, IsPlaceOf}
+use Rattle.messages.specs.Handles.{Holding}
 use Rattle.messages.specs.MessageObject.{message_definition, opening}
 
 -- a queue may have this capacity and this many handles

@@ -47,17 +47,17 @@ module _ {T : Type 0} (channel : Channel T) where
     pub room : after.seat.room ≡ before.seat.room
 
   -- it took a unit of the values, and then it received
-  pub record ReceivesOn (take : Takes) (before : Point (Place T)) (got : Received T)
+  pub record ReceivesOn (take : Takes) (before : Point (Place T)) (outcome : Received T)
       (after : Point (Place T)) : Type 0 where
     pub between : Point (Place T)
     pub took : TakesValueUnit take before (Ok tt) between
-    pub received : ReceivesFrom between got after
+    pub receives : ReceivesFrom between outcome after
 
   -- A receive: it waited in vain, and did nothing else; or it took a unit of the values, and then
   -- the oldest value, or found the end.
   abbrev pub Receives :
       Takes → Point (Place T) → Result (Received T) Fault → Point (Place T) → Type 0
-  Receives take before (Ok got) after = ReceivesOn take before got after
+  Receives take before (Ok outcome) after = ReceivesOn take before outcome after
   Receives take before (Err why) after = TakesValueUnit take before (Err why) after
 
   -- no unit was there now, and it did nothing else

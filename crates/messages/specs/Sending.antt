@@ -39,17 +39,18 @@ got_of (Ok unit) = Ok got.Acquired
 got_of (Err fault) = Err fault
 
 -- it waits as long as it takes
-abbrev pub waits_at : Sema → Takes
+abbrev pub waits_at : Sema → Point SemaSeat → Result Unit Fault → Point SemaSeat → Type 0
 waits_at sema before answer after = Semacquires true sema before (got_of answer) after
 
 -- it waits until this moment at these timers, lent this timer, which is left so
-abbrev pub waits_within : Timers → ℕ → TimerSeat → TimerSeat → Sema → Takes
+abbrev pub waits_within : Timers → ℕ → TimerSeat → TimerSeat → Sema → Point SemaSeat
+    → Result Unit Fault → Point SemaSeat → Type 0
 waits_within timers moment old new sema before answer after =
     AcquiresBy (timed_throughout timers moment) sema
     (record { at = before; timer = old }) answer (record { at = after; timer = new })
 
 -- it does not wait
-abbrev pub takes_now : Sema → Takes
+abbrev pub takes_now : Sema → Point SemaSeat → Result Unit Fault → Point SemaSeat → Type 0
 takes_now sema before answer after = Semacquires false sema before (got_of answer) after
 
 -- ---- a send
@@ -92,7 +93,7 @@ module _ {T : Type 0} (channel : Channel T) (value : T) where
       (after : Point (Place T)) : Type 0 where
     pub between : Point (Place T)
     pub took : TakesRoom take before (Ok tt) between
-    pub sent : SendsInto between answer after
+    pub sends : SendsInto between answer after
 
   -- A send: it waited for room in vain, and did nothing else; or it took a unit of the room, and
   -- then the value was accepted, or the queue was hung up.

@@ -1,7 +1,7 @@
 //! The lock and the semaphores of a queue, and the seats of a handle at them.
 ghost use Rattle.std.specs.Prelude.{◌≤◌};
 ghost use Rattle.sync_base.specs.declared.limits.TheConstants.{MAX_PROCS};
-ghost use Rattle.messages.specs.Handles.{IsRowOf};
+ghost use Rattle.messages.specs.Rows.{IsRowOf};
 
 use crate::answers::Received;
 use crate::known::has_row;
