@@ -1,6 +1,6 @@
 -- A hangup is answered as the first, or as one of a queue that was hung up before.
 use Rattle.messages.proofs.AskLemmas.{hang_never}
-use Rattle.messages.proofs.hanging.Channel.hang_up.Goals as goal
+use Rattle.messages.proofs.channel.Channel.hang_up.Goals as goal
 
 pub unreachable-requires : goal.unreachable-requires
 unreachable-requires g c =
