@@ -1,0 +1,13 @@
+pub mod EndLemmas
+pub mod GrainEndLemmas
+pub mod GrainEvents
+pub mod GrainLemmas
+pub mod GrainNotes
+pub mod RunLemmas
+pub mod ScheduleLemmas
+pub mod SleepEvents
+pub mod UnrefusedLemmas
+pub mod WaitTableLemmas
+pub mod WholeCallLemmas
+pub mod WorkedLatch
+mod WorkedRows

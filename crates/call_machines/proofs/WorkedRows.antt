@@ -1,0 +1,305 @@
+-- The rows of the definitions, one by one, and what each forbids.
+use Rattle.std.proofs.Common.{◌≡◌, ◌<◌, Bool, true, false, Option, Some, None, [], ◌∷◌, Ok, Err, refl, ap}
+use Rattle.std.proofs.Common.{arith}
+use Rattle.std.specs.Prelude.{⊤}
+use Rattle.sync_base.specs.declared.fault.Fault.TheVariants as fault
+use Rattle.sync_base.specs.declared.limits.TheConstants.{TOP_LEVEL}
+use Rattle.sync_base.specs.declared.note.Note.TheVariants.{Alarm, Interrupt}
+use Rattle.sync_base.specs.declared.note.NoteSet.{NoteSet}
+use Rattle.sync_base.specs.NoteSet.{no_notes, only}
+use Rattle.sleep_core.specs.declared.answer.Answer.TheVariants as answer
+use Rattle.sleep_core.specs.declared.event.Event.{Event}
+use Rattle.sleep_core.specs.declared.event.Event.TheVariants as event
+use Rattle.sleep_core.specs.declared.phase.Phase.{Phase}
+use Rattle.sleep_core.specs.declared.phase.Phase.TheVariants as phase
+use Rattle.sleep_core.specs.State.{opening}
+use Rattle.waiting.specs.Waiting.{Promise}
+use Rattle.call_machines.specs.Grain.{Grain, May, levels_by, notes_by, with_move}
+use Rattle.call_machines.specs.Grain.Grain.{Heard, Noted, Refused, Returned, Went, Woken}
+use Rattle.call_machines.specs.GrainEnds.{AreUnrefused}
+use Rattle.call_machines.specs.Machine.{Next, Outcome}
+use Rattle.call_machines.specs.Runs.{IsAnswered, IsNext, IsOfCalls, event_for, outcome_of}
+use Rattle.call_machines.specs.Runs.{own_after}
+use Rattle.call_machines.specs.Runs.Act.{Asked, Made}
+use Rattle.call_machines.specs.WaitTables.{AllowsNoMore, Keeps, does, goes_on}
+use Rattle.call_machines.specs.WaitTables.WaitState.{Asking, Begun, Leaving, Over, Returning, Waits}
+use Rattle.call_machines.specs.WholeCalls.{IsThereFor, events_of}
+use Rattle.call_machines.proofs.WorkedLatch.{LatchCall, LatchReply, asked, asleep, latch}
+use Rattle.call_machines.proofs.WorkedLatch.{latch_after, latch_answer, means, means_late, proc}
+use Rattle.call_machines.proofs.WorkedLatch.{rendez, wait_table}
+use Rattle.call_machines.proofs.WorkedLatch.LatchCall.{Look, Set}
+use Rattle.call_machines.proofs.WorkedLatch.LatchReply.{Closed, Open}
+use Rattle.call_machines.proofs.WorkedLatch.LatchState.{Waiting}
+
+-- ---- the machine of a wait
+
+asks_first : does wait_table Begun ≡ Next.Ask Look
+asks_first = refl
+
+sleeps_with_its_number : does wait_table (Waits 7) ≡ Next.Sleep 7
+sleeps_with_its_number = refl
+
+asks_again : does wait_table Asking ≡ Next.Ask Look
+asks_again = refl
+
+leaves : does wait_table (Leaving fault.DoubleSleep) ≡ Next.Ask Look
+leaves = refl
+
+returns_its_notes : does wait_table (Returning (only Alarm) tt) ≡ Next.Return (only Alarm)
+returns_its_notes = refl
+
+is_over : does wait_table (Over (Ok tt)) ≡ Next.Over (Ok tt)
+is_over = refl
+
+is_done_at_once : goes_on wait_table Begun (Outcome.Replied Open) ≡ Over (Ok tt)
+is_done_at_once = refl
+
+has_to_wait : goes_on wait_table Begun (Outcome.Replied Closed) ≡ Waits 0
+has_to_wait = refl
+
+slept_well : goes_on wait_table (Waits 7) (Outcome.Slept (Ok tt)) ≡ Asking
+slept_well = refl
+
+failed_asleep : goes_on wait_table (Waits 7) (Outcome.Slept (Err fault.BadLevel))
+    ≡ Leaving fault.BadLevel
+failed_asleep = refl
+
+waits_on : goes_on wait_table Asking (Outcome.Replied Closed) ≡ Waits 0
+waits_on = refl
+
+left_with_nothing : goes_on wait_table (Leaving fault.DoubleSleep) (Outcome.Replied Closed)
+    ≡ Over (Err fault.DoubleSleep)
+left_with_nothing = refl
+
+left_with_a_result : goes_on wait_table (Leaving fault.DoubleSleep) (Outcome.Replied Open)
+    ≡ Over (Ok tt)
+left_with_a_result = refl
+
+left_with_a_result_and_notes :
+    goes_on wait_table (Leaving (fault.Interrupted (only Alarm))) (Outcome.Replied Open)
+    ≡ Returning (only Alarm) tt
+left_with_a_result_and_notes = refl
+
+has_returned_them : goes_on wait_table (Returning (only Alarm) tt) Outcome.Went ≡ Over (Ok tt)
+has_returned_them = refl
+
+-- ---- the events of what a machine does
+
+-- of process 0, which sleeps in Rendez 3
+abbrev next_event : Phase → Next LatchCall Unit → Option Event
+next_event stage does = event_for 0 (rendez 3) stage does
+
+asks_without_an_event : next_event phase.Idle (Next.Ask Look) ≡ None
+asks_without_an_event = refl
+
+over_without_an_event :
+    next_event phase.Idle (Next.Over (Ok tt)) ≡ None
+over_without_an_event = refl
+
+sleeps_in_its_own : next_event phase.Idle (Next.Sleep 7)
+    ≡ Some (event.Post (proc 0) (rendez 3) 7)
+sleeps_in_its_own = refl
+
+looks_in_its_sleep :
+    next_event (phase.Asleep (rendez 3) 7) (Next.Sleep 7)
+    ≡ Some (event.Look (proc 0))
+looks_in_its_sleep = refl
+
+wakes_another : next_event phase.Idle (Next.Wake (rendez 5) 9)
+    ≡ Some (event.Raise (proc 0) (rendez 5) 9)
+wakes_another = refl
+
+posts_to_itself : next_event phase.Idle (Next.Return (only Alarm))
+    ≡ Some (event.Note (proc 0) (only Alarm))
+posts_to_itself = refl
+
+-- ---- what came of them
+
+cleared : outcome_of {Reply = LatchReply} (event.Clear (proc 0)) answer.Cleared
+    ≡ Outcome.Slept (Ok tt)
+cleared = refl
+
+interrupted : outcome_of {Reply = LatchReply} (event.Clear (proc 0))
+    (answer.Interrupted (only Alarm))
+    ≡ Outcome.Slept (Err (fault.Interrupted (only Alarm)))
+interrupted = refl
+
+taken : outcome_of {Reply = LatchReply} (event.Post (proc 0) (rendez 3) 7) answer.DoubleSleep
+    ≡ Outcome.Slept (Err fault.DoubleSleep)
+taken = refl
+
+too_high : outcome_of {Reply = LatchReply} (event.Post (proc 0) (rendez 3) TOP_LEVEL)
+    answer.BadLevel
+    ≡ Outcome.Slept (Err fault.BadLevel)
+too_high = refl
+
+not_there : outcome_of {Reply = LatchReply} (event.Post (proc 0) (rendez 9) 7) answer.NoRendez
+    ≡ Outcome.Slept (Err fault.NoRendez)
+not_there = refl
+
+woke : outcome_of {Reply = LatchReply} (event.Mark (proc 0)) (answer.Marked (proc 1)) ≡ Outcome.Went
+woke = refl
+
+-- ---- runs
+
+-- a reply moves a machine, and no phase
+a_reply_moves_it : own_after latch.machine
+    (record { at = Waiting Begun; stage = phase.Idle }) (Asked Look Closed)
+    ≡ record { at = Waiting (Waits 0); stage = phase.Idle }
+a_reply_moves_it = refl
+
+-- an event amid a sleep moves a phase, and no machine
+a_post_moves_no_machine : own_after latch.machine
+    (record { at = Waiting (Waits 0); stage = phase.Idle })
+    (Made (event.Post (proc 0) (rendez 0) 0) answer.Posted)
+    ≡ record { at = Waiting (Waits 0); stage = phase.Posted (rendez 0) 0 }
+a_post_moves_no_machine = refl
+
+-- a request that is not the machine's next is none of its run
+asks_out_of_turn : IsNext latch.machine 0 (rendez 0)
+    (record { at = Waiting Begun; stage = phase.Idle }) (Asked Set Open) → ⊥
+asks_out_of_turn is = cc
+
+sleeps_unasked : IsNext latch.machine 0 (rendez 0)
+    (record { at = Waiting Begun; stage = phase.Idle })
+    (Made (event.Post (proc 0) (rendez 0) 0) answer.Posted) → ⊥
+sleeps_unasked is = cc
+
+-- the latch is closed, and so no other reply is a run
+no_other_reply : IsAnswered latch (opening 2 2) false (Asked Look Open) → ⊥
+no_other_reply is = cc
+
+opened_by_nobody : IsOfCalls latch (asked 0 Look Open ∷ []) → ⊥
+opened_by_nobody of = let is = of.right.1.answered in cc
+
+by_nobody_there : IsOfCalls latch (asked 7 Look Closed ∷ []) → ⊥
+by_nobody_there of = let low : 7 < 2 = of.right.1.below in absurd (omega arith)
+
+-- who was told to wait sleeps before it asks again
+asks_on_without_a_sleep : IsOfCalls latch (asked 0 Look Closed ∷ asked 0 Look Closed ∷ []) → ⊥
+asks_on_without_a_sleep of = let is = (of.follows 0).1 in cc
+
+-- ---- whole calls
+
+the_events : events_of (asked 1 Set Open ∷ asleep)
+    ≡ record {
+      maker = 0;
+      event = event.Test (proc 0);
+      answer = answer.Asleep;
+    }
+    ∷ record {
+      maker = 0;
+      event = event.Post (proc 0) (rendez 0) 0;
+      answer = answer.Posted;
+    }
+    ∷ []
+the_events = refl
+
+sleeps_for_ever : IsThereFor latch (Next.Sleep TOP_LEVEL) → ⊥
+sleeps_for_ever is = is refl
+
+wakes_what_is_not_there : IsThereFor latch (Next.Wake (rendez 2) 1) → ⊥
+wakes_what_is_not_there low = let is : 2 < 2 = low in absurd (omega arith)
+
+-- ---- the grain of calls
+
+abbrev MayDo : NoteSet → Next LatchCall Unit → Grain LatchCall LatchReply → Type 0
+MayDo notes does grain = May latch false notes does grain
+
+wakes_with_notes : MayDo (only Alarm) (Next.Sleep 7) Woken → ⊥
+wakes_with_notes may = let none = may.2 in cc
+
+notes_of_nobody : MayDo no_notes (Next.Sleep 7) (Noted no_notes) → ⊥
+notes_of_nobody may = let some = may.2 in cc
+
+other_notes : MayDo (only Alarm) (Next.Sleep 7) (Noted (only Interrupt)) → ⊥
+other_notes may = let same = ap (λ (set : NoteSet). set.alarm) may.3 in cc
+
+refused_as_worn : MayDo no_notes (Next.Sleep 7) (Refused fault.Worn) → ⊥
+refused_as_worn may = may.2
+
+is_woken_without_a_sleep : MayDo no_notes (Next.Ask Look) Woken → ⊥
+is_woken_without_a_sleep may = let does = may.1 in cc
+
+hears_another_reply : MayDo no_notes (Next.Ask Look) (Heard Look Open) → ⊥
+hears_another_reply may = let is = may.1 in cc
+
+hears_what_it_did_not_ask : MayDo no_notes (Next.Ask Look) (Heard Set Open) → ⊥
+hears_what_it_did_not_ask may = let is = may.0 in cc
+
+returned : (set other : NoteSet)
+    → ◌≡◌ {A = Next LatchCall Unit} (Next.Return set) (Next.Return other) → set ≡ other
+returned set other is = cc
+
+returns_others : MayDo no_notes (Next.Return (only Alarm)) (Returned (only Interrupt)) → ⊥
+returns_others may =
+    let alarm = ap (λ (set : NoteSet). set.alarm) (returned (only Alarm) (only Interrupt) may) in cc
+
+goes_on_while_it_asks : MayDo no_notes (Next.Ask Look) Went → ⊥
+goes_on_while_it_asks may = let does = may.2 in cc
+
+takes_its_notes : notes_by {Request = LatchCall} {Reply = LatchReply} (only Alarm)
+    (Noted (only Alarm)) ≡ no_notes
+takes_its_notes = refl
+
+has_them_again : notes_by {Request = LatchCall} {Reply = LatchReply} no_notes
+    (Returned (only Alarm)) ≡ only Alarm
+has_them_again = refl
+
+-- a lower wakeup leaves the level
+keeps_the_greatest : levels_by {Request = LatchCall} {Reply = LatchReply} {Out = Unit} (4 ∷ 6 ∷ [])
+    (Next.Wake (rendez 1) 5) Went
+    ≡ 4 ∷ 6 ∷ []
+keeps_the_greatest = refl
+
+raises_its_own : levels_by {Request = LatchCall} {Reply = LatchReply} {Out = Unit} (4 ∷ 6 ∷ [])
+    (Next.Wake (rendez 0) 5) Went
+    ≡ 5 ∷ 6 ∷ []
+raises_its_own = refl
+
+-- the last event alone is a move
+amid_a_sleep : with_move latch 0 (record { at = Waiting (Waits 0); stage = phase.Idle })
+    (Made (event.Post (proc 0) (rendez 0) 0) answer.Posted) [] ≡ []
+amid_a_sleep = refl
+
+refused_at_once : with_move latch 0 (record { at = Waiting (Waits 0); stage = phase.Idle })
+    (Made (event.Post (proc 0) (rendez 0) 0) answer.DoubleSleep) []
+    ≡ record { by = 0; grain = Refused fault.DoubleSleep } ∷ []
+refused_at_once = refl
+
+a_refusal_is_one : AreUnrefused latch
+    (record { by = 0; grain = Refused fault.DoubleSleep } ∷ []) → ⊥
+a_refusal_is_one are = are.1
+
+-- ---- a table and a promise
+
+-- a seat that is the latch itself
+abbrev Serves : LatchCall → LatchReply → Bool → Bool → Type 0
+Serves call replied old new = (replied ≡ latch_answer old call) × (new ≡ latch_after old call)
+
+abbrev Any : Bool → Type 0
+Any seat = ⊤
+
+-- each request says whether the latch is open, and leaves it
+abbrev latch_promise : Promise Bool Unit
+latch_promise =
+    record {
+      begun = λ old said new. (said ≡ means (latch_answer old.seat Look)) × (new ≡ old);
+      asked = λ old said new. (said ≡ means (latch_answer old.seat Look)) × (new ≡ old);
+      left = λ old out new. (out ≡ means_late (latch_answer old Look)) × (new ≡ old);
+    }
+
+-- a call whose latch was opened before it left has its result: a table that forgets it is refused
+forgets_its_result :
+    Keeps (record wait_table { left = λ replied. None }) latch_promise Serves Any Any → ⊥
+forgets_its_result keeps =
+    let is = (keeps.leaves Open true true tt (refl, refl)).0.0 in cc
+
+-- and so is a promise that allows it
+allows_to_forget_it :
+    AllowsNoMore wait_table (record latch_promise { left = λ old out new. ⊤ }) Serves Any Any → ⊥
+allows_to_forget_it no_more =
+    let so = no_more.left None true true tt tt in
+    let late = ap means_late so.2.0 in
+    let is = so.1 in
+    cc

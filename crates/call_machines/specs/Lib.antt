@@ -1,0 +1,9 @@
+pub mod Ends
+pub mod Grain
+pub mod GrainEnds
+pub mod Machine
+pub mod Plays
+pub mod Runs
+pub mod Schedules
+pub mod WaitTables
+pub mod WholeCalls

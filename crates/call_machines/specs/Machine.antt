@@ -1,0 +1,34 @@
+-- A call as a machine: what it does next, and how it goes on once that is done. It knows neither
+-- its device nor its process. After the processes of Herlihy and Wing, "Linearizability: a
+-- correctness condition for concurrent objects" (1990), section 2, which are sequential.
+use Rattle.std.specs.Prelude.{ℕ, Result}
+use Rattle.sync_base.specs.declared.fault.Fault.{Fault}
+use Rattle.sync_base.specs.declared.ids.RendezId.{RendezId}
+use Rattle.sync_base.specs.declared.note.NoteSet.{NoteSet}
+
+-- what a call does next
+pub data Next (Request Out : Type 0) : Type 0 where
+  -- it asks its device this
+  Ask : Request → Next Request Out
+  -- it sleeps in the Rendez of its process until the level there is above this number
+  Sleep : ℕ → Next Request Out
+  -- it wakes this Rendez with this level
+  Wake : RendezId → ℕ → Next Request Out
+  -- it posts these notes to its own process again
+  Return : NoteSet → Next Request Out
+  -- it is over, with this answer
+  Over : Result Out Fault → Next Request Out
+
+-- what came of that
+pub data Outcome (Reply : Type 0) : Type 0 where
+  -- the device replied this
+  Replied : Reply → Outcome Reply
+  -- the sleep ended well, or failed with this fault
+  Slept : Result Unit Fault → Outcome Reply
+  -- the wakeup or the return is over
+  Went : Outcome Reply
+
+-- Own: what a call does in each of its states, and the state after each outcome.
+pub record Machine (State Request Reply Out : Type 0) : Type 0 where
+  pub does : State → Next Request Out
+  pub goes_on : State → Outcome Reply → State
