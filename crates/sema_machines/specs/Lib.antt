@@ -1,0 +1,2 @@
+pub mod CallMachines
+pub mod Holds
