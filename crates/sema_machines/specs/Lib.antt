@@ -1,2 +1,3 @@
 pub mod CallMachines
 pub mod Holds
+pub mod SemaRuns
