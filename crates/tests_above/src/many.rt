@@ -52,6 +52,20 @@ fn made<'p>(
     }
 }
 
+// Whether a write went well, once more where memory was refused.
+fn wrote<R: Wait>(
+    rt: &R,
+    alloc: Global,
+    proc: &mut Proc<'_>,
+    end: &mut WriteEnd<'_>,
+    bytes: &[u8],
+) -> bool {
+    match end.write(alloc, rt, proc, bytes) {
+        Err(Fault::Memory) => end.write(alloc, rt, proc, bytes).is_ok(),
+        answer => answer.is_ok(),
+    }
+}
+
 // What each writer of the second end writes is read at the first, and at no other pipe: in stream
 // mode by one read, and else by one read each.
 fn pass<R: Wait + Abort>(
@@ -65,7 +79,7 @@ fn pass<R: Wait + Abort>(
 ) {
     assert_eq!(rt; writes.len() as u64, WRITERS);
     for end in writes.iter_mut() {
-        assert!(rt; end.write(alloc, rt, proc, &[number]).is_ok());
+        assert!(rt; wrote(rt, alloc, proc, end, &[number]));
     }
     let mut buffer = [0; 8];
     let count = if is_stream { 2 } else { 1 };
