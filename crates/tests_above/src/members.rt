@@ -389,10 +389,10 @@ fn give_all<R: Wait + Abort>(rt: &R, alloc: Global, space: &mut Space, count: u6
 // Why no member is given, once more where memory was refused.
 fn why_none<R: Wait>(rt: &R, alloc: Global, space: &mut Space) -> Option<Fault> {
     let why = space.members(alloc, rt, 1).err();
-    if why != Some(Fault::Memory) {
-        return why;
+    match why {
+        Some(Fault::Memory) => space.members(alloc, rt, 1).err(),
+        why => why,
     }
-    space.members(alloc, rt, 1).err()
 }
 
 // Gives all, once more where memory was refused.

@@ -269,10 +269,10 @@ fn give_all<R: Wait + Abort>(rt: &R, alloc: Global, clock: &mut Clock, count: u6
 // Why no watch is given, once more where memory was refused.
 fn why_none<R: Wait>(rt: &R, alloc: Global, clock: &mut Clock) -> Option<Fault> {
     let why = clock.watches(alloc, rt, 1).err();
-    if why != Some(Fault::Memory) {
-        return why;
+    match why {
+        Some(Fault::Memory) => clock.watches(alloc, rt, 1).err(),
+        why => why,
     }
-    clock.watches(alloc, rt, 1).err()
 }
 
 // Gives all, once more where memory was refused.
