@@ -14,6 +14,9 @@ from __main__ import NAME, PROGRAMS, TOP, Program, cant, fail, on_path, say, tex
 # A first build by the clock, on four processors: of p9sync as docs/TIMES.md has it, of the others estimates.
 TAKES = {"p9sync": "8 to 20 minutes", "p9explore": "20 to 30 minutes", "p9lab": "30 to 50 minutes"}
 
+# What is said of a copy that is not proved, beside that.
+UNPROVED = {"p9explore": ", and it is some hundred times slower: a script of more than 20,000 states wants what ./p9explore builds"}
+
 
 class Stopped(Exception):
     """A signal that ends the launch."""
@@ -86,7 +89,7 @@ def compile_unproved(program, file):
     if program.why_not(file):
         compile_to(f"{TOP}/{file}", f"{out}/try.log", lock)
         note(program, file)
-        say(f"{NAME}: compiled, and kept as {TOP}/{file}: nothing of it is proved")
+        say(f"{NAME}: compiled, and kept as {TOP}/{file}: nothing of it is proved{UNPROVED.get(NAME, '')}")
     os.close(lock)
     return f"{TOP}/{file}"
 
@@ -203,21 +206,28 @@ class Progress:
         rows = [it.split() for it in text_of(f"{TOP}/tools/progress").splitlines() if NAME == PROGRAMS[0] and not it.startswith("#")]
         self.shares = {row[0]: int(row[1]) for row in rows if len(row) == 2}
 
-    def left_after(self, crate):
-        """How long the rest will take, if it goes on as it did until this crate was proved; nothing where tools/progress doesn't say."""
-        share = self.shares.get(crate)
-        minutes = int((time.monotonic() - self.begun) * (100 - share) / share / 60) + 1 if share else 0
-        return f", about {minutes} minutes left" if minutes > 1 else ", about a minute left" if minutes else ""
+    def left_after(self, crate, lines):
+        """How long the rest will take: of a first build of p9sync, if it goes on as it did until this crate was proved; of another, as
+        tools/build said last. Nothing where neither says it."""
+        if self.shares:
+            share = self.shares.get(crate)
+            minutes = int((time.monotonic() - self.begun) * (100 - share) / share / 60) + 1 if share else 0
+            return f", about {minutes} minutes left" if minutes > 1 else ", about a minute left" if minutes else ""
+        said = [it.rpartition(", about ")[2] for it in lines if it.startswith("-- ") and ", about " in it]
+        return f", about {said[-1]}" if said and self.shown < self.crates else ""
 
     def show(self, is_last):
-        ended = [it[3:-8] for it in text_of(self.log).splitlines() if it.startswith("== ") and it.endswith(": proved")]
+        lines = text_of(self.log).splitlines()
+        ended = [it[3:-8] for it in lines if it.startswith("== ") and it.endswith(": proved")]
         for crate in ended[self.shown:]:
             self.shown += 1
-            found = self.left_after(crate)
+            found = self.left_after(crate, lines)
             self.left = found or self.left
             if not os.isatty(2):
                 say(f"{crate} proved, {self.shown} of {self.crates} crates{found}")
         if os.isatty(2):
             minutes = int((time.monotonic() - self.begun) / 60)
             text = f"\r{NAME}: {self.shown} of {self.crates} crates proved, after {minutes} minutes{self.left}\033[K"
-            os.write(2, os.fsencode(text + "\n" * is_last))
+            with contextlib.suppress(OSError):
+                # a terminal that is gone
+                os.write(2, os.fsencode(text + "\n" * is_last))

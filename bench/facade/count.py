@@ -1,4 +1,5 @@
-"""Prints how many instructions a call of `plan9` takes beside the call of the crate that it stands for.
+"""Prints how many instructions a call of `plan9` takes beside the call of the crate that it stands for, or that it adds to: a write
+that leaves no note and the next piece of a read do more than a write and a read, which `plan9` has from `pipe_dev` as they are.
 
 usage: count.py PROGRAM; `facade.rattle` is the program
 
@@ -10,7 +11,7 @@ import sys
 import tempfile
 
 TIMES = 1_000
-CALLS = {"an acquire and a release": 0, "a write and a read of 16 bytes": 1}
+CALLS = {"an acquire and a release": 0, "a write that leaves no note and a piece of 16 bytes": 1}
 
 
 def count(program, side, call, times, made):
@@ -29,7 +30,7 @@ def main(program):
         for name, call in CALLS.items():
             crates, plan9 = ((count(program, side, call, 10 * TIMES, made) - count(program, side, call, TIMES, made))
                              / (9 * TIMES) for side in (0, 1))
-            print(f"{name:32}{crates:8.1f}{plan9:8.1f}{100 * (plan9 / crates - 1):8.2f}", flush=True)
+            print(f"{name:52}{crates:8.1f}{plan9:8.1f}{100 * (plan9 / crates - 1):8.2f}", flush=True)
 
 
 if __name__ == "__main__":

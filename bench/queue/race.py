@@ -72,4 +72,5 @@ def main():
             print(f"  {NAMES[side]:14} {spread}{beside}")
 
 
-main()
+if __name__ == "__main__":
+    main()

@@ -3,95 +3,94 @@
 #![tactic(auto)]
 
 use plan9::{
-    Fault, Member, Note, NoteSet, OpenedKernel, Pid, Plan, Proc, Space, Started, Tag, forks,
+    Fault, Job, Member, Note, NoteSet, OpenedKernel, Pid, Plan, Proc, Space, Started, Tag, Team,
+    Worker, forks,
 };
 use std::alloc::Global;
-use std::io;
 use std::sync::Wait;
-use std::thread::{Threads, map_vec, scope, scope_env};
+use std::thread::Threads;
 
-/// The window system is process 0, and the clients are the processes from 1 to this number.
+/// The clients are the processes from 1 to this number, and the window system is the next.
 const LAST: u64 = 4;
 
-/// How many columns each client was granted.
-type Granted = Vec<Result<u64, Fault>>;
+/// How many columns a client was granted.
+type Granted = Result<u64, Fault>;
 
-/// A client, or the window system: a process with a member of the space.
+/// A client, or the window system.
 #[derive(Drop)]
-struct Caller<'s, 'k> {
-    proc: Proc<'k>,
-    member: Member<'s>,
-}
+struct Caller<'s>(Member<'s>);
 
-/// Asks for 20 columns more than the client before it, and returns how many were granted: none to a
-/// client that was sent away.
-fn ask<R: Wait>(rt: &R, client: Caller<'_, '_>) -> Result<u64, Fault> {
-    let Caller {
-        mut proc,
-        mut member,
-    } = client;
-    let Pid(number) = proc.pid();
-    let wanted = number.saturating_mul(20).saturating_add(20);
-    match member.rendezvous(rt, &mut proc, Tag(number), wanted) {
-        Ok(_) => member.rendezvous(rt, &mut proc, Tag(number), 0),
-        Err(Fault::Interrupted(notes)) if notes.has(Note::Hangup) => Ok(0),
-        Err(fault) => Err(fault),
+impl<'s> Caller<'s> {
+    /// Asks for 20 columns more than the client before it, and returns how many were granted: none
+    /// to a client that was sent away.
+    fn ask<R: Wait>(&mut self, rt: &R, proc: &mut Proc<'_>) -> Granted {
+        let (Pid(number), Caller(member)) = (proc.pid(), self);
+        let wanted = number.saturating_mul(20).saturating_add(20);
+        match member.rendezvous(rt, proc, Tag(number), wanted) {
+            Ok(_) => member.rendezvous(rt, proc, Tag(number), 0),
+            Err(Fault::Interrupted(notes)) if notes.has(Note::Hangup) => Ok(0),
+            Err(fault) => Err(fault),
+        }
+    }
+
+    /// Grants all clients but the last at most 70 columns, and sends the last away.
+    fn serve<R: Wait>(&mut self, rt: &R, proc: &mut Proc<'_>) -> Result<(), Fault> {
+        let Caller(member) = self;
+        for client in 1..LAST {
+            let wanted = member.rendezvous(rt, proc, Tag(client), 0)?;
+            member.rendezvous(rt, proc, Tag(client), wanted.min(70))?;
+        }
+        proc.postnote(Pid(LAST), NoteSet::of(Note::Hangup))
     }
 }
 
-/// Grants all clients but the last at most 70 columns, and sends the last away.
-fn serve<R: Wait>(rt: &R, windows: &mut Caller<'_, '_>) -> Result<(), Fault> {
-    let Caller { proc, member } = windows;
-    for client in 1..LAST {
-        let wanted = member.rendezvous(rt, proc, Tag(client), 0)?;
-        member.rendezvous(rt, proc, Tag(client), wanted.min(70))?;
+impl<'s, R: Wait> Job<R> for Caller<'s> {
+    type Out = Granted;
+
+    fn run(mut self, rt: &R, proc: &mut Proc<'_>) -> Granted {
+        if proc.pid().0 > LAST {
+            self.serve(rt, proc).map(|()| 0)
+        } else {
+            self.ask(rt, proc)
+        }
     }
-    proc.postnote(Pid(LAST), NoteSet::of(Note::Hangup))
 }
 
-/// The window system has a thread of its own, and so has each client.
+/// All are children of the first process, and start together.
 fn run_all<R: Threads + Wait + Sync>(
-    rt: &R,
-    mut windows: Caller<'_, '_>,
-    clients: Vec<Caller<'_, '_>>,
-) -> Result<Granted, Fault> {
-    scope(scope_env(), rt, move |scope| {
-        let Ok(serving) = scope.spawn(move || serve(rt, &mut windows)) else {
-            return Err(Fault::Device);
-        };
-        let granted = map_vec(rt, clients, &|client: Caller| ask(rt, client));
-        serving.join(rt).and(Ok(granted?))
-    })
-}
-
-/// The clients are children of the window system.
-fn open<R: Threads + Wait + Sync>(
     rt: &R,
     alloc: Global,
     space: &mut Space,
-    started: Started<'_>,
-) -> Result<Granted, Fault> {
-    let Started {
-        mut roster,
-        mut proc,
-    } = started;
-    let mut member = space.member()?;
-    let mut clients = Vec::new(alloc);
-    for proc in forks(alloc, &mut roster, &mut proc, LAST)? {
-        let member = member.split(rt)?;
-        clients.push(Caller { proc, member })?;
+    started: &mut Started<'_>,
+) -> Result<Vec<Granted>, Fault> {
+    let Started { roster, proc } = started;
+    let mut team = Team::new(roster, LAST + 1)?;
+    let members = space.members(alloc, rt, LAST + 1)?;
+    let mut workers = Vec::new(alloc);
+    for (child, member) in forks(alloc, roster, proc, LAST + 1)?
+        .into_iter()
+        .zip(members)
+    {
+        let job = Caller(member);
+        workers.push(Worker { proc: child, job })?;
     }
-    run_all(rt, Caller { proc, member }, clients)
+    let mut granted = Vec::new(alloc);
+    for ended in team.run(alloc, rt, proc, workers, &mut ())? {
+        granted.push(ended.out)?;
+    }
+    granted.pop().ok_or(Fault::NoProc)??;
+    Ok(granted)
 }
 
-fn run<R: Threads + Wait + Sync>(rt: &R, alloc: Global) -> Result<Granted, Fault> {
-    let OpenedKernel { kernel, start } = Plan::new().space(LAST + 1).build(alloc)?;
+fn run<R: Threads + Wait + Sync>(rt: &R, alloc: Global) -> Result<Vec<Granted>, Fault> {
+    let plan = Plan::new().space(LAST + 1).team(LAST + 1);
+    let OpenedKernel { kernel, start } = plan.build(alloc)?;
     let mut started = kernel.start(start);
     let mut space = Space::new(alloc, &mut started.roster, LAST + 1)?;
-    open(rt, alloc, &mut space, started)
+    run_all(rt, alloc, &mut space, &mut started)
 }
 
-fn main(rt: HostRuntime) -> io::Result<()> {
+fn main(rt: HostRuntime) -> std::io::Result<()> {
     match run(&rt, rt.alloc()) {
         Ok(granted) => println!(rt; "columns granted: {granted:?}"),
         Err(fault) => println!(rt; "the windows failed: {fault}"),

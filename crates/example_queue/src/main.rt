@@ -1,126 +1,123 @@
-//! A queue of typed values: two producers put jobs in, while there is room for four, and two
-//! consumers take them out. One semaphore counts the free places, and one the jobs.
+//! A queue of values: two producers send jobs, while there is room for four, and two consumers
+//! receive them until the end. All of them start together.
 #![tactic(auto)]
 
-use crossbeam_queue::ArrayQueue;
-use plan9::{Fault, OpenedKernel, Plan, Proc, Roster, Seat, Semaphore, Started, fork};
-use std::alloc::{AllocError, Global};
+use plan9::{
+    Ended, Fault, Job, Messages, OpenedKernel, Plan, Proc, QueueEnds, Received, Receiver, Sender,
+    Started, Team, Told, Worker, forks,
+};
+use std::alloc::Global;
 use std::sync::Wait;
-use std::thread::{Threads, map_vec, scope, scope_env};
+use std::thread::Threads;
 
-/// How many jobs each producer makes, and each consumer takes.
+/// How many jobs each producer makes.
 const JOBS: u64 = 20;
 
-/// How many producers there are, and how many consumers.
-const PARTIES: u64 = 2;
+/// How many producers there are, and how many of them and of the consumers.
+const PRODUCERS: u64 = 2;
 
-/// How many seats each semaphore has: one for each of them, and the first one.
-const SEATS: u64 = 2 * PARTIES + 1;
+const PARTIES: u64 = 2 * PRODUCERS;
 
 #[derive(Clone, Copy)]
-struct Job(u64);
+struct JobNumber(u64);
 
-/// A producer or a consumer, with a seat at each semaphore.
 #[derive(Drop)]
-struct Party<'s, 'k> {
-    proc: Proc<'k>,
-    free: Seat<'s>,
-    jobs: Seat<'s>,
+enum Party<'m> {
+    Producer(Sender<'m, JobNumber>),
+    Consumer(Receiver<'m, JobNumber>),
 }
 
-/// Puts jobs in. A party with a unit finds a place.
-fn produce<R: Wait>(rt: &R, me: &mut Party<'_, '_>, queue: &ArrayQueue<Job>) -> Result<u64, Fault> {
-    for number in 1..=JOBS {
-        me.free.acquire(rt, &mut me.proc)?;
-        queue.push(rt, Job(number)).ok().ok_or(Fault::BadArg)?;
-        me.jobs.release(rt, &mut me.proc, 1)?;
+impl<'m, R: Wait> Job<R> for Party<'m> {
+    type Out = Result<u64, Fault>;
+
+    fn run(self, rt: &R, proc: &mut Proc<'_>) -> Result<u64, Fault> {
+        match self {
+            Party::Producer(mut jobs) => produce(rt, proc, &mut jobs),
+            Party::Consumer(mut jobs) => consume(rt, proc, &mut jobs),
+        }
     }
-    Ok(JOBS)
 }
 
-/// Takes jobs, and adds up their numbers. A party with a unit finds a job.
-fn consume<R: Wait>(rt: &R, me: &mut Party<'_, '_>, queue: &ArrayQueue<Job>) -> Result<u64, Fault> {
+fn produce<R: Wait>(
+    rt: &R,
+    proc: &mut Proc<'_>,
+    jobs: &mut Sender<'_, JobNumber>,
+) -> Result<u64, Fault> {
+    for number in 1..=JOBS {
+        jobs.send(rt, proc, JobNumber(number))?;
+    }
+    Ok(0)
+}
+
+/// Adds up the numbers of the jobs, until the end.
+fn consume<R: Wait>(
+    rt: &R,
+    proc: &mut Proc<'_>,
+    jobs: &mut Receiver<'_, JobNumber>,
+) -> Result<u64, Fault> {
     let mut sum = 0u64;
-    for _ in 0..JOBS {
-        me.jobs.acquire(rt, &mut me.proc)?;
-        let Job(number) = queue.pop(rt).ok_or(Fault::BadArg)?;
-        me.free.release(rt, &mut me.proc, 1)?;
+    for _ in rt.forever() {
+        let Received::Value(JobNumber(number)) = jobs.receive(rt, proc)? else {
+            break;
+        };
         sum = sum.saturating_add(number);
     }
     Ok(sum)
 }
 
-fn add_up(all: Result<Vec<Result<u64, Fault>>, AllocError>) -> Result<u64, Fault> {
+fn add_up(ended: &[Ended<'_, Result<u64, Fault>>]) -> Result<u64, Fault> {
     let mut sum = 0u64;
-    for one in all?.iter() {
-        sum = sum.saturating_add((*one)?);
+    for one in ended {
+        sum = sum.saturating_add(one.out?);
     }
     Ok(sum)
 }
 
-/// Each party on a thread of its own. Where no thread can be started for the producers, nothing is
-/// begun.
+/// The first process, which counts how many have ended. Once the last producer has, it hangs up;
+/// and also if a consumer has, so that no producer waits for it.
+#[derive(Drop)]
+struct First<'q> {
+    ends: QueueEnds<'q, JobNumber>,
+    ended: u64,
+}
+
+impl<'q, R: Wait> Told<R> for First<'q> {
+    fn told(&mut self, rt: &R, proc: &mut Proc<'_>, number: usize) {
+        self.ended = self.ended.saturating_add(1);
+        if self.ended == PRODUCERS || number as u64 >= PRODUCERS {
+            let _hung = self.ends.sender.hangup(rt, proc);
+        }
+    }
+}
+
+/// The producers are the first workers.
 fn run_all<R: Threads + Wait + Sync>(
     rt: &R,
-    queue: &ArrayQueue<Job>,
-    producers: Vec<Party<'_, '_>>,
-    consumers: Vec<Party<'_, '_>>,
-) -> Result<u64, Fault> {
-    scope(scope_env(), rt, move |scope| {
-        let Ok(producing) = scope.spawn(move || map_vec(
-            rt,
-            producers,
-            &|mut me: Party| produce(rt, &mut me, queue),
-        )) else {
-            return Err(Fault::Device);
-        };
-        let took = map_vec(rt, consumers, &|mut me: Party| consume(rt, &mut me, queue));
-        add_up(producing.join(rt)).and(add_up(took))
-    })
-}
-
-/// Producers or consumers: children of the first party.
-fn parties_of<'s, 'k, R: Wait>(
-    rt: &R,
     alloc: Global,
-    first: &mut Party<'s, 'k>,
-    roster: &mut Roster<'k>,
-) -> Result<Vec<Party<'s, 'k>>, Fault> {
-    let mut parties = Vec::new(alloc);
-    for _ in 0..PARTIES {
-        let proc = fork(roster, &mut first.proc)?;
-        let free = first.free.split(rt)?;
-        let jobs = first.jobs.split(rt)?;
-        parties.push(Party { proc, free, jobs })?;
-    }
-    Ok(parties)
-}
-
-fn open<'s, 'k, R: Threads + Wait + Sync>(
-    rt: &R,
-    alloc: Global,
-    free: &'s mut Semaphore,
-    jobs: &'s mut Semaphore,
-    started: &mut Started<'k>,
+    first: &mut First<'_>,
+    started: &mut Started<'_>,
 ) -> Result<u64, Fault> {
     let Started { roster, proc } = started;
-    let free = free.seat()?;
-    let jobs = jobs.seat()?;
-    let proc = fork(roster, proc)?;
-    let first = &mut Party { proc, free, jobs };
-    let producers = parties_of(rt, alloc, first, roster)?;
-    let consumers = parties_of(rt, alloc, first, roster)?;
-    run_all(rt, &ArrayQueue::new(alloc, 4)?, producers, consumers)
+    let mut team = Team::new(roster, PARTIES)?;
+    let mut workers = Vec::new(alloc);
+    for (number, proc) in (0..).zip(forks(alloc, roster, proc, PARTIES)?) {
+        let job = if number < PRODUCERS {
+            Party::Producer(first.ends.sender.split(rt)?)
+        } else {
+            Party::Consumer(first.ends.receiver.split(rt)?)
+        };
+        workers.push(Worker { proc, job })?;
+    }
+    add_up(&team.run(alloc, rt, proc, workers, first)?)
 }
 
 fn run<R: Threads + Wait + Sync>(rt: &R, alloc: Global) -> Result<u64, Fault> {
-    let plan = Plan::new().processes(SEATS + 1);
-    let plan = plan.semaphore(SEATS).semaphore(SEATS);
+    let plan = Plan::new().queue(PARTIES + 2).team(PARTIES);
     let OpenedKernel { kernel, start } = plan.build(alloc)?;
     let mut started = kernel.start(start);
-    let mut free = Semaphore::new(alloc, &mut started.roster, 4, SEATS)?;
-    let mut jobs = Semaphore::new(alloc, &mut started.roster, 0, SEATS)?;
-    open(rt, alloc, &mut free, &mut jobs, &mut started)
+    let mut jobs = Messages::new(alloc, &mut started.roster, 4, PARTIES + 2)?;
+    let ends = jobs.ends(rt)?;
+    run_all(rt, alloc, &mut First { ends, ended: 0 }, &mut started)
 }
 
 fn main(rt: HostRuntime) -> std::io::Result<()> {

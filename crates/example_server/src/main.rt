@@ -1,184 +1,193 @@
-//! A server's request loop. It shows a pipe with many writers, and a pipe back to each of them.
+//! A server's request loop. It shows a queue with many senders, and a pipe back to each of them.
 //!
-//! Four clients write requests into one pipe, and one server reads them in the order in which they
+//! Four clients send requests by one queue, and one server receives them in the order in which they
 //! come. It answers each client on a pipe of its own. One client leaves in the middle, and the
-//! server goes on with the others. A hangup of the pipe of requests ends it.
+//! server goes on with the others. A hangup of the queue ends it.
 #![tactic(auto)]
 
 use plan9::{
-    Ends, Fault, Kernel, OpenedKernel, OpenedPipe, OpenedPipes, Pipe, Pipes, Proc, ReadAnswer,
-    ReadEnd, Started, WriteCalls, WriteEnd, fork, forks,
+    Ended, Ends, Fault, Job, Messages, OpenedKernel, OpenedPipes, Pipes, Plan, Proc, ReadAnswer,
+    ReadEnd, Received, Receiver, Sender, Started, Team, Told, Worker, WriteCalls, WriteEnd, fork,
+    forks,
 };
 use std::alloc::Global;
 use std::sync::Wait;
-use std::thread::{Threads, map_vec, scope, scope_env};
+use std::thread::Threads;
 
 /// How many clients there are, and which of them leaves in the middle.
 const CLIENTS: u64 = 4;
 
-const LEAVES: u8 = 2;
+const LEAVES: usize = 2;
 
-/// A client asks at one pipe and is answered at another.
-#[derive(Drop)]
-struct Client<'p, 'k> {
-    number: u8,
-    proc: Proc<'k>,
-    asks: WriteEnd<'p>,
-    answers: ReadEnd<'p>,
+/// A client asks for the square of this number.
+#[derive(Clone, Copy)]
+struct Request {
+    client: usize,
+    wanted: u8,
 }
 
-impl<'p, 'k> Client<'p, 'k> {
-    /// Asks for a square. A request, with the client's number, is one write: it is read whole and
-    /// never joined with another, so the clients need no lock.
-    fn request<R: Wait>(&mut self, rt: &R, alloc: Global, wanted: u8) -> Result<u64, Fault> {
-        let request = [self.number, wanted];
-        self.asks.write(alloc, rt, &mut self.proc, &request)
-    }
+/// A client asks by the queue and is answered at a pipe.
+#[derive(Drop)]
+struct Client<'o> {
+    number: usize,
+    asks: Sender<'o, Request>,
+    answers: ReadEnd<'o>,
+}
 
-    /// Waits for the answer.
-    fn answer<R: Wait>(&mut self, rt: &R) -> Result<u64, Fault> {
-        let mut square = [0];
-        if self.answers.read(rt, &mut self.proc, &mut square)? == ReadAnswer::End {
-            return Err(Fault::Hungup);
-        }
-        Ok(u64::from(square[0]))
-    }
-
+impl<'o> Client<'o> {
     /// Asks for the squares of 1 to 5, and returns their sum. A client that leaves hangs its
     /// answers up, with a request unanswered, and has no sum.
-    fn ask<R: Wait>(&mut self, rt: &R, alloc: Global) -> Result<Option<u64>, Fault> {
-        let mut sum = 0u64;
+    fn ask<R: Wait>(&mut self, rt: &R, proc: &mut Proc<'_>) -> Result<Option<u64>, Fault> {
+        let (mut sum, client) = (0u64, self.number);
         for wanted in 1..=5 {
-            if self.number == LEAVES && wanted == 3 {
-                self.answers.hangup(&mut self.proc);
-                self.request(rt, alloc, wanted)?;
+            let leaves = client == LEAVES && wanted == 3;
+            if leaves {
+                self.answers.hangup(proc);
+            }
+            self.asks.send(rt, proc, Request { client, wanted })?;
+            if leaves {
                 return Ok(None);
             }
-            self.request(rt, alloc, wanted)?;
-            sum = sum.wrapping_add(self.answer(rt)?);
+            let mut square = [0];
+            if self.answers.read(rt, proc, &mut square)? == ReadAnswer::End {
+                return Err(Fault::Hungup);
+            }
+            sum = sum.wrapping_add(u64::from(square[0]));
         }
         Ok(Some(sum))
     }
 }
 
-/// The sums of the clients that stayed.
-fn sums(alloc: Global, asked: &[Result<Option<u64>, Fault>]) -> Result<Vec<u64>, Fault> {
+/// The server answers each client at a pipe, by its number.
+#[derive(Drop)]
+struct Server<'o> {
+    alloc: Global,
+    requests: Receiver<'o, Request>,
+    answers: Vec<WriteEnd<'o>>,
+}
+
+impl<'o> Server<'o> {
+    /// The request loop. A client that is gone has hung its answers up: the write there is refused,
+    /// and leaves no note that would end the next receive. The pipe of a client that can't be
+    /// answered is hung up, so that the client doesn't wait.
+    fn serve<R: Wait>(&mut self, rt: &R, proc: &mut Proc<'_>) -> Result<(), Fault> {
+        for _ in rt.forever() {
+            let Received::Value(request) = self.requests.receive(rt, proc)? else {
+                break;
+            };
+            let square = [request.wanted.saturating_mul(request.wanted)];
+            let end = self.answers.get_mut(request.client).ok_or(Fault::BadArg)?;
+            if end.write_unnoted(self.alloc, rt, proc, &square).is_err() {
+                end.hangup(proc);
+            }
+        }
+        Ok(())
+    }
+}
+
+#[derive(Drop)]
+enum Party<'o> {
+    Asks(Client<'o>),
+    Serves(Server<'o>),
+}
+
+/// The sum of a client that stayed.
+type Sum = Result<Option<u64>, Fault>;
+
+impl<'o, R: Wait> Job<R> for Party<'o> {
+    type Out = Sum;
+
+    fn run(self, rt: &R, proc: &mut Proc<'_>) -> Sum {
+        match self {
+            Party::Asks(mut client) => client.ask(rt, proc),
+            Party::Serves(mut server) => server.serve(rt, proc).map(|()| None),
+        }
+    }
+}
+
+fn sums(alloc: Global, ended: &[Ended<'_, Sum>]) -> Result<Vec<u64>, Fault> {
     let mut sums = Vec::new(alloc);
-    for asked in asked {
-        if let Some(sum) = (*asked)? {
+    for ended in ended {
+        if let Some(sum) = ended.out? {
             sums.push(sum)?;
         }
     }
     Ok(sums)
 }
 
-/// The server reads at one pipe, and answers at one of each client's, by its number.
-#[derive(Drop)]
-struct Server<'p, 'k> {
-    proc: Proc<'k>,
-    requests: ReadEnd<'p>,
-    answers: Vec<WriteEnd<'p>>,
-}
-
-/// The request loop. A client that is gone has hung its answers up: the write there is refused, and
-/// leaves no note that would end the next read. The pipe of a client that can't be answered is hung
-/// up, so that the client doesn't wait.
-fn serve<R: Wait>(rt: &R, alloc: Global, server: &mut Server<'_, '_>) -> Result<(), Fault> {
-    let Server {
-        proc,
-        requests,
-        answers,
-    } = server;
-    let mut request = [0; 2];
-    for _ in rt.forever() {
-        if requests.read(rt, proc, &mut request)? == ReadAnswer::End {
-            break;
-        }
-        let [client, wanted] = request;
-        let square = [wanted.saturating_mul(wanted)];
-        let end = answers.get_mut(usize::from(client)).ok_or(Fault::BadArg)?;
-        if end.write_unnoted(alloc, rt, proc, &square).is_err() {
-            end.hangup(proc);
-        }
+/// The clients, each with a pipe back, whose other ends are the answers.
+fn clients_of<'o, 'k, R: Wait>(
+    rt: &R,
+    procs: Vec<Proc<'k>>,
+    asks: &mut Sender<'o, Request>,
+    backs: Vec<Ends<'o>>,
+    answers: &mut Vec<WriteEnd<'o>>,
+    workers: &mut Vec<Worker<'k, Party<'o>>>,
+) -> Result<(), Fault> {
+    for (number, (proc, back)) in (0..).zip(procs.into_iter().zip(backs)) {
+        answers.extend(back.first.parts().writes)?;
+        let job = Party::Asks(Client {
+            number,
+            asks: asks.split(rt)?,
+            answers: back.second.parts().read,
+        });
+        workers.push(Worker { proc, job })?;
     }
     Ok(())
 }
 
-/// Starts the server first, since the clients wait for it. Once all clients are done, the first
-/// process hangs the pipe of requests up.
-fn run_all<R: Threads + Wait + Sync>(
-    rt: &R,
-    alloc: Global,
-    mut proc: Proc<'_>,
-    mut last: WriteEnd<'_>,
-    mut server: Server<'_, '_>,
-    clients: Vec<Client<'_, '_>>,
-) -> Result<Vec<u64>, Fault> {
-    scope(scope_env(), rt, move |scope| {
-        let Ok(serving) = scope.spawn(move || serve(rt, alloc, &mut server)) else {
-            return Err(Fault::Device);
-        };
-        let asked = map_vec(rt, clients, &|mut client: Client| client.ask(rt, alloc));
-        last.hangup(&mut proc);
-        serving.join(rt).and(sums(alloc, &asked?))
-    })
+/// The first process, which counts how many have ended. Once all clients have, it hangs the queue
+/// up; the server ends last.
+#[derive(Drop)]
+struct First<'o> {
+    sender: Sender<'o, Request>,
+    ended: u64,
 }
 
-/// The clients, each with an end of the pipe of requests and with a pipe back.
-fn clients_of<'p, 'k>(
-    alloc: Global,
-    procs: Vec<Proc<'k>>,
-    asks: Vec<WriteEnd<'p>>,
-    backs: Vec<Ends<'p>>,
-    answers: &mut Vec<WriteEnd<'p>>,
-) -> Result<Vec<Client<'p, 'k>>, Fault> {
-    let mut clients = Vec::new(alloc);
-    for (number, ((proc, asks), back)) in (0..).zip(procs.into_iter().zip(asks).zip(backs)) {
-        answers.extend(back.first.parts().writes)?;
-        clients.push(Client {
-            number,
-            proc,
-            asks,
-            answers: back.second.parts().read,
-        })?;
+impl<'o, R: Wait> Told<R> for First<'o> {
+    fn told(&mut self, rt: &R, proc: &mut Proc<'_>, _number: usize) {
+        self.ended = self.ended.saturating_add(1);
+        if self.ended == CLIENTS {
+            let _hung = self.sender.hangup(rt, proc);
+        }
     }
-    Ok(clients)
 }
 
-/// The server and the clients are children of the first process, which has the last end of the pipe
-/// of requests.
-fn open<'p, 'k, R: Threads + Wait + Sync>(
+/// All of them are children of the first process, and start together.
+fn open<'o, R: Threads + Wait + Sync>(
     rt: &R,
     alloc: Global,
-    ends: Ends<'p>,
-    backs: Vec<Ends<'p>>,
-    started: Started<'k>,
+    queue: &'o mut Messages<Request>,
+    backs: Vec<Ends<'o>>,
+    started: &mut Started<'_>,
 ) -> Result<Vec<u64>, Fault> {
-    let Started {
-        mut roster,
-        mut proc,
-    } = started;
-    let mut asks = ends.second.parts().writes;
-    let last = asks.pop().ok_or(Fault::BadSize)?;
-    let procs = forks(alloc, &mut roster, &mut proc, CLIENTS)?;
-    let mut answers = Vec::new(alloc);
-    let clients = clients_of(alloc, procs, asks, backs, &mut answers)?;
-    let server = Server {
-        proc: fork(&mut roster, &mut proc)?,
-        requests: ends.first.parts().read,
+    let Started { roster, proc } = started;
+    let ends = queue.ends(rt)?;
+    let (mut sender, requests) = (ends.sender, ends.receiver);
+    let (mut answers, mut workers) = (Vec::new(alloc), Vec::new(alloc));
+    let procs = forks(alloc, roster, proc, CLIENTS)?;
+    clients_of(rt, procs, &mut sender, backs, &mut answers, &mut workers)?;
+    let job = Party::Serves(Server {
+        alloc,
+        requests,
         answers,
-    };
-    run_all(rt, alloc, proc, last, server, clients)
+    });
+    let server = fork(roster, proc)?;
+    workers.push(Worker { proc: server, job })?;
+    let mut team = Team::new(roster, CLIENTS + 1)?;
+    let mut first = First { sender, ended: 0 };
+    sums(alloc, &team.run(alloc, rt, proc, workers, &mut first)?)
 }
 
 /// A pipe goes both ways; here one way of each is used.
 fn run<R: Threads + Wait + Sync>(rt: &R, alloc: Global) -> Result<Vec<u64>, Fault> {
-    let OpenedKernel { kernel, start } = Kernel::new(alloc, 6, 28)?;
+    let plan = Plan::new().queue(CLIENTS + 2).team(CLIENTS + 1);
+    let OpenedKernel { kernel, start } = plan.rendez(4 * CLIENTS).build(alloc)?;
     let mut started = kernel.start(start);
-    let OpenedPipe { pipe, start } = Pipe::new(alloc, &mut started.roster, 2, CLIENTS + 1)?;
-    let ends = pipe.ends(start);
-    let OpenedPipes { pipes, start } = Pipes::new(alloc, &mut started.roster, CLIENTS, 1, 1)?;
-    open(rt, alloc, ends, pipes.ends(start), started)
+    let roster = &mut started.roster;
+    let mut queue = Messages::new(alloc, roster, 2, CLIENTS + 2)?;
+    let OpenedPipes { pipes, start } = Pipes::new(alloc, roster, CLIENTS, 1, 1)?;
+    open(rt, alloc, &mut queue, pipes.ends(start), &mut started)
 }
 
 fn main(rt: HostRuntime) -> std::io::Result<()> {

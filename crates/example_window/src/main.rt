@@ -1,13 +1,13 @@
 //! A window system's multiplexer: one reader of many devices. A keyboard, a mouse and the frame of
-//! a window each write events into one pipe, and one reader takes them as they come, from whichever
-//! device: it waits at one place for all. When the window is closed the pipe is hung up: what was
-//! written is still read, and then it ends.
+//! a window each send events to one queue, and one reader receives them as they come, from
+//! whichever device: it waits at one place for all. When the window is closed the queue is hung up:
+//! what was sent is still received, and then it ends.
 #![tactic(auto)]
 
 use Event::{Key, Mouse, Size};
 use plan9::{
-    Ends, Fault, OpenedKernel, OpenedPipe, Pipe, Plan, Proc, ReadCalls, ReadEnd, Started, WriteEnd,
-    forks,
+    Fault, Messages, OpenedKernel, Plan, Proc, QueueEnds, Received, Receiver, Sender, Started,
+    fork, forks,
 };
 use std::alloc::Global;
 use std::sync::Wait;
@@ -21,7 +21,7 @@ enum Event {
     Size(u8, u8),
 }
 
-/// The events of each device, and of the button that closes the window.
+/// The events of each device.
 const KEYS: &[Event] = &[
     Key(b'p'),
     Key(b'l'),
@@ -33,44 +33,25 @@ const KEYS: &[Event] = &[
 
 const MOVES: &[Event] = &[Mouse(3, 4), Mouse(5, 4), Mouse(9, 7)];
 
-const DEVICES: [&[Event]; 4] = [KEYS, MOVES, &[Size(80, 24), Size(100, 40)], &[]];
+const DEVICES: [&[Event]; 3] = [KEYS, MOVES, &[Size(80, 24), Size(100, 40)]];
 
-impl Event {
-    fn to_bytes(self) -> [u8; 3] {
-        match self {
-            Key(key) => [b'k', key, 0],
-            Mouse(x, y) => [b'm', x, y],
-            Size(wide, high) => [b's', wide, high],
-        }
-    }
-
-    fn of(bytes: &[u8]) -> Option<Event> {
-        match bytes {
-            [b'k', key, _] => Some(Key(*key)),
-            [b'm', x, y] => Some(Mouse(*x, *y)),
-            [b's', wide, high] => Some(Size(*wide, *high)),
-            _ => None,
-        }
-    }
-}
-
-/// A process that writes into the pipe, and what it writes.
+/// A process that sends to the queue, and what it sends.
 #[derive(Drop)]
-struct Device<'p, 'k> {
+struct Device<'m, 'k> {
     proc: Proc<'k>,
-    end: WriteEnd<'p>,
+    queue: Sender<'m, Event>,
     events: &'static [Event],
 }
 
-/// A device writes each event by one write, in order, and waits where the pipe is full.
-fn send<R: Wait>(rt: &R, alloc: Global, device: Device<'_, '_>) -> Result<(), Fault> {
+/// A device sends each event, in order, and waits where the queue is full.
+fn send<R: Wait>(rt: &R, device: Device<'_, '_>) -> Result<(), Fault> {
     let Device {
         mut proc,
-        mut end,
+        mut queue,
         events,
     } = device;
     for event in events {
-        end.write(alloc, rt, &mut proc, &event.to_bytes())?;
+        queue.send(rt, &mut proc, *event)?;
     }
     Ok(())
 }
@@ -93,70 +74,78 @@ fn take(window: &mut Window, event: Event) -> Result<(), Fault> {
     Ok(())
 }
 
-/// The multiplexer. Each read is one event, since a read never joins two writes. Where it can't
-/// show an event it reads on, so that no device waits for ever.
+/// The multiplexer. Where it can't show an event it reads on, so that no device waits for ever.
 fn show<R: Wait>(
     rt: &R,
     alloc: Global,
     mut proc: Proc<'_>,
-    mut end: ReadEnd<'_>,
+    mut queue: Receiver<'_, Event>,
 ) -> Result<Window, Fault> {
     let mut window = Window {
         typed: String::new(alloc),
         mouse: (0, 0),
         size: (0, 0),
     };
-    let (mut shown, mut buffer) = (Ok(()), [0; 8]);
+    let mut shown = Ok(());
     for _ in rt.forever() {
-        let Some(count) = end.next_piece(rt, &mut proc, &mut buffer)? else {
+        let Received::Value(event) = queue.receive(rt, &mut proc)? else {
             break;
         };
-        if let Some(event) = buffer.get(..count).and_then(Event::of) {
-            shown = shown.and(take(&mut window, event));
-        }
+        shown = shown.and(take(&mut window, event));
     }
     shown.map(|()| window)
 }
 
-/// The first process reads, and is started first. A child is at each device, on a thread of its own
-/// or in its turn where no thread can be started. The last child has the button, on this thread.
+/// The reader is started first. A child is at each device, on a thread of its own or in its turn
+/// where no thread can be started. The first process has the button that closes the window.
 fn run_all<R: Threads + Wait + Sync>(
     rt: &R,
     alloc: Global,
-    ends: Ends<'_>,
+    ends: QueueEnds<'_, Event>,
     started: Started<'_>,
 ) -> Result<Window, Fault> {
     let Started {
         mut roster,
         mut proc,
     } = started;
-    let procs = forks(alloc, &mut roster, &mut proc, 4)?;
-    let (reads, writes) = (ends.first.parts().read, ends.second.parts().writes);
+    let QueueEnds {
+        mut sender,
+        receiver,
+    } = ends;
+    let reader = fork(&mut roster, &mut proc)?;
     let mut devices = Vec::new(alloc);
-    for ((proc, end), events) in procs.into_iter().zip(writes).zip(DEVICES) {
-        devices.push(Device { proc, end, events })?;
+    for (proc, events) in forks(alloc, &mut roster, &mut proc, 3)?
+        .into_iter()
+        .zip(DEVICES)
+    {
+        let queue = sender.split(rt)?;
+        devices.push(Device {
+            proc,
+            queue,
+            events,
+        })?;
     }
-    let mut button = devices.pop().ok_or(Fault::BadSize)?;
     scope(scope_env(), rt, move |scope| {
-        let Ok(showing) = scope.spawn(move || show(rt, alloc, proc, reads)) else {
+        let Ok(showing) = scope.spawn(move || show(rt, alloc, reader, receiver)) else {
             return Err(Fault::Device);
         };
-        let sent = map_vec(rt, devices, &|device: Device| send(rt, alloc, device));
-        button.end.hangup(&mut button.proc);
+        let sent = map_vec(rt, devices, &|device: Device| send(rt, device));
+        let hung = sender.hangup(rt, &mut proc);
         let shown = showing.join(rt);
         for sent in sent?.iter() {
             (*sent)?;
         }
-        shown
+        hung.and(shown)
     })
 }
 
-/// A pipe with room for two events that nobody has read.
+/// A queue with room for two events that nobody has received.
 fn run<R: Threads + Wait + Sync>(rt: &R, alloc: Global) -> Result<Window, Fault> {
-    let OpenedKernel { kernel, start } = Plan::new().pipe(4).build(alloc)?;
+    let OpenedKernel { kernel, start } = Plan::new().queue(5).build(alloc)?;
     let mut started = kernel.start(start);
-    let OpenedPipe { pipe, start } = Pipe::new(alloc, &mut started.roster, 2, 4)?;
-    run_all(rt, alloc, pipe.ends(start), started)
+    let mut queue = Messages::new(alloc, &mut started.roster, 2, 5)?;
+    let ends = queue.ends(rt)?;
+    run_all(rt, alloc, ends, started)
 }
 
 fn main(rt: HostRuntime) -> std::io::Result<()> {

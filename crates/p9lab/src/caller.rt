@@ -1,7 +1,12 @@
 //! A process with its things, and the calls that a line may make of it.
 use crate::progress::{Progress, Stops, Visitor};
-use crate::roles::{call_guest, call_holder, call_plain, call_reader, call_sharer, call_writer};
-use plan9::{Member, NoProbe, Probe, Proc, ReadEnd, Seat, Share, Watch, WriteEnd};
+use crate::roles::{
+    call_guest, call_holder, call_plain, call_reader, call_receiver, call_sender, call_sharer,
+    call_writer,
+};
+use plan9::{
+    Member, NoProbe, Probe, Proc, ReadEnd, Receiver, Seat, Sender, Share, Watch, WriteEnd,
+};
 use scene_text::answer::{Answer, NO_CLOCK, NOT_HERE, NOT_ITS_CALL, Visit};
 use scene_text::verbs::{Asked, Call, RoleAt, RoleName};
 use std::alloc::Global;
@@ -20,6 +25,8 @@ pub enum Thing {
     /// None while it rforks.
     Guest(Option<Member<'static>>),
     Sharer(Share<'static, 'static>),
+    Sender(Sender<'static, u64>),
+    Receiver(Receiver<'static, u64>),
 }
 
 /// A thing, and the role as a line names it.
@@ -135,6 +142,8 @@ fn make_call(
         Thing::Guest(Some(member)) => call_guest(rt, member, proc, means, call, probe),
         Thing::Guest(None) => Some(NOT_HERE),
         Thing::Sharer(share) => Some(call_sharer(rt, share, proc, &mut means.bytes, call)),
+        Thing::Sender(sender) => call_sender(rt, sender, proc, &mut means.watch, call),
+        Thing::Receiver(receiver) => call_receiver(rt, receiver, proc, &mut means.watch, call),
     };
     answer.unwrap_or(NO_CLOCK)
 }

@@ -1,7 +1,9 @@
 //! What a line does, up to what it waits for.
 use crate::caller::Held;
 use crate::calling::{Until, start};
-use crate::objects::{index_of, make_clock, make_group, make_pipe, make_sema, make_space, share};
+use crate::objects::{
+    index_of, make_clock, make_group, make_pipe, make_queue, make_sema, make_space, share,
+};
 use crate::progress::status_of;
 use crate::roles::call_at_once;
 use crate::scene::{Host, Scene, State, caller_at, place_of, push, set};
@@ -75,6 +77,7 @@ fn answer(rt: &impl Wait, scene: &mut Scene, number: u64, verb: Verb<'_>) -> Opt
         Verb::Clock(seats) => make_clock(scene, seats),
         Verb::Space(members) => make_space(scene, members),
         Verb::NewGroup(object) => make_group(scene, object),
+        Verb::Queue(capacity, handles) => make_queue(rt, scene, capacity, handles),
         Verb::Stranger(procs, rendez, role) => seat_stranger(rt, scene, procs, rendez, role),
         Verb::Fork(Some(role)) => fork_in_role(rt, scene, number, Flags::RFPROC, role),
         Verb::Fork(None) => fork_holder(rt, scene, number),

@@ -3,12 +3,13 @@ ghost use Rattle.plan9.specs.Openings.{IsStartOf};
 
 use crate::scene::{Scene, keep, push, set};
 use plan9::{
-    Clock, Ends, Fault, Kernel, Mode, OpenedPipe, Parts, Pipe, ReadEnd, Roster, Semaphore,
-    SharedEnd, Space, Unshared, Watch, WriteEnd,
+    Clock, Ends, Fault, Kernel, Messages, Mode, OpenedPipe, Parts, Pipe, QueueEnds, ReadEnd,
+    Receiver, Roster, Semaphore, Sender, SharedEnd, Space, Unshared, Watch, WriteEnd,
 };
 use scene_text::answer::{Answer, Came};
 use scene_text::verbs::{RoleAt, RoleName};
 use std::alloc::Global;
+use std::sync::Wait;
 
 /// The ends of one direction that nobody has yet.
 #[derive(Drop)]
@@ -25,6 +26,14 @@ pub struct Row<T: Drop> {
     end: u64,
 }
 
+/// The first handles of a queue of numbers that nobody has had, and the end of its Rendez.
+#[derive(Drop)]
+pub struct Queue {
+    sender: Option<Sender<'static, u64>>,
+    receiver: Option<Receiver<'static, u64>>,
+    end: u64,
+}
+
 /// What nobody has yet.
 #[derive(Drop)]
 pub struct Objects {
@@ -34,6 +43,7 @@ pub struct Objects {
     pub spaces: Vec<Row<Space>>,
     pub clocks: Vec<Watch<'static>>,
     pub shared: Vec<Row<SharedEnd<'static>>>,
+    pub queues: Vec<Queue>,
 }
 
 impl Objects {
@@ -45,6 +55,7 @@ impl Objects {
             spaces: Vec::new(alloc),
             clocks: Vec::new(alloc),
             shared: Vec::new(alloc),
+            queues: Vec::new(alloc),
         }
     }
 
@@ -55,6 +66,16 @@ impl Objects {
         self.directions.get_mut(at).ok_or(Fault::NoProc)
     }
 
+    /// The first sender of the queue with this number, if nobody has had it.
+    pub fn sender(&mut self, object: u64) -> Option<Sender<'static, u64>> {
+        self.queues.get_mut(index_of(object))?.sender.take()
+    }
+
+    /// The first receiver of the queue with this number, if nobody has had it.
+    pub fn receiver(&mut self, object: u64) -> Option<Receiver<'static, u64>> {
+        self.queues.get_mut(index_of(object))?.receiver.take()
+    }
+
     /// Whether the object of this role has Rendez that are not among the first so many. An end of a
     /// pipe tells its callers so itself.
     pub fn is_above(&self, role: RoleAt, rendez: u64) -> bool {
@@ -62,6 +83,12 @@ impl Objects {
             RoleName::Holder => ends_above(&self.semas, role.object, rendez),
             RoleName::Guest => ends_above(&self.spaces, role.object, rendez),
             RoleName::Sharer => ends_above(&self.shared, role.object, rendez),
+            RoleName::Sender | RoleName::Receiver => {
+                match self.queues.get(index_of(role.object)) {
+                    Some(queue) => queue.end > rendez,
+                    None => false,
+                }
+            }
             _ => false,
         }
     }
@@ -187,6 +214,19 @@ fn ends_above<T: Drop>(rows: &Vec<Row<T>>, object: u64, rendez: u64) -> bool {
         Some(row) => row.end > rendez,
         None => false,
     }
+}
+
+/// Makes a queue of numbers, whose first handles nobody has yet.
+pub fn make_queue(rt: &impl Wait, scene: &mut Scene, capacity: u64, handles: u64) -> Came {
+    let opened = Messages::new(scene.alloc, &mut scene.roster, capacity, handles)?;
+    let end = end_of(scene.kernel, &scene.roster);
+    let QueueEnds { sender, receiver } = keep(scene.alloc, opened)?.ends(rt)?;
+    let queue = Queue {
+        sender: Some(sender),
+        receiver: Some(receiver),
+        end,
+    };
+    add(&mut scene.objects.queues, queue)
 }
 
 /// Makes timers, whose first seat is that of process 0.

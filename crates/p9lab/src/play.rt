@@ -159,6 +159,7 @@ fn planned(plan: Plan, kind: &str, count: u64) -> Option<Plan> {
         "pipe" => Some(plan.pipe(count)),
         "space" => Some(plan.space(count)),
         "sema" => Some(plan.semaphore(count)),
+        "queue" => Some(plan.queue(count)),
         "clock" => Some(plan.timers(count)),
         _ => None,
     }

@@ -2,8 +2,9 @@
 //! timers which the process does not have.
 use crate::caller::Means;
 use plan9::{
-    Fault, Long, Member, Pid, Probe, Proc, ReadCalls, ReadEnd, RendezId, Seat, Share, ShortRead,
-    Tag, WriteCalls, WriteEnd,
+    Fault, Long, Member, Pid, Probe, Proc, ReadCalls, ReadEnd, ReceiveCalls, Received, Receiver,
+    RendezId, Seat, SendCalls, Sender, Share, ShortRead, Tag, TryReceived, TrySent, Unsent, Watch,
+    WriteCalls, WriteEnd,
 };
 use scene_text::answer::{
     Answer, NOT_ITS_CALL, OK, done, have_piece, have_read, have_tried, have_written, numbered,
@@ -225,4 +226,84 @@ pub fn call_guest(
         Call::Rendez => Answer::Number("rendez", member.rendez().0),
         _ => call_at_once(proc, call),
     })
+}
+
+// ---- queues
+
+/// A call by a sender of a queue.
+pub fn call_sender(
+    rt: &impl Wait,
+    sender: &mut Sender<u64>,
+    proc: &mut Proc,
+    watch: &mut Option<Watch<'static>>,
+    call: Call,
+) -> Option<Answer> {
+    Some(match call {
+        Call::Send(value) => have_sent(sender.send(rt, proc, value)),
+        Call::SendWithin(Deadline { now, ms }, value) => {
+            let watch = watch.as_mut()?;
+            have_sent(sender.send_within(rt, proc, watch, now, ms, value))
+        }
+        Call::TrySend(value) => have_tried_to_send(sender.try_send(rt, proc, value)),
+        Call::Hangup => done("ok", sender.hangup(rt, proc)),
+        Call::Rendez => Answer::Number("rendez", sender.rendez().0),
+        _ => call_at_once(proc, call),
+    })
+}
+
+// That a value was sent, or why not, with the value that came back.
+fn have_sent(answer: Result<(), Unsent<u64>>) -> Answer {
+    match answer {
+        Ok(()) => Answer::Word("sent"),
+        Err(Unsent { value, fault }) => Answer::FaultAfter(fault, value),
+    }
+}
+
+// The same of a send that does not wait.
+fn have_tried_to_send(answer: Result<TrySent<u64>, Unsent<u64>>) -> Answer {
+    match answer {
+        Ok(TrySent::Sent) => Answer::Word("sent"),
+        Ok(TrySent::NotNow(value)) => Answer::Number("not now", value),
+        Err(Unsent { value, fault }) => Answer::FaultAfter(fault, value),
+    }
+}
+
+/// A call by a receiver of a queue.
+pub fn call_receiver(
+    rt: &impl Wait,
+    receiver: &mut Receiver<u64>,
+    proc: &mut Proc,
+    watch: &mut Option<Watch<'static>>,
+    call: Call,
+) -> Option<Answer> {
+    Some(match call {
+        Call::Receive => have_received(receiver.receive(rt, proc)),
+        Call::ReceiveWithin(Deadline { now, ms }) => {
+            let watch = watch.as_mut()?;
+            have_received(receiver.receive_within(rt, proc, watch, now, ms))
+        }
+        Call::TryReceive => have_tried_to_receive(receiver.try_receive(rt, proc)),
+        Call::Hangup => done("ok", receiver.hangup(rt, proc)),
+        Call::Rendez => Answer::Number("rendez", receiver.rendez().0),
+        _ => call_at_once(proc, call),
+    })
+}
+
+// The value that came, or the end.
+fn have_received(answer: Result<Received<u64>, Fault>) -> Answer {
+    match answer {
+        Ok(Received::Value(value)) => Answer::Number("got", value),
+        Ok(Received::End) => Answer::Word("end"),
+        Err(fault) => Answer::Fault(fault),
+    }
+}
+
+// The same of a receive that does not wait.
+fn have_tried_to_receive(answer: Result<TryReceived<u64>, Fault>) -> Answer {
+    match answer {
+        Ok(TryReceived::Value(value)) => Answer::Number("got", value),
+        Ok(TryReceived::NotNow) => Answer::Word("not now"),
+        Ok(TryReceived::End) => Answer::Word("end"),
+        Err(fault) => Answer::Fault(fault),
+    }
 }

@@ -40,8 +40,20 @@ fn first_thing(objects: &mut Objects, role: RoleAt) -> Result<Option<Thing>, Fau
             Some(shared) => Some(Thing::Sharer(for_good(shared).share()?)),
             None => None,
         },
+        RoleName::Sender => first_sender(objects, object),
+        RoleName::Receiver => first_receiver(objects, object),
         RoleName::Writers => return Err(Fault::NoProc),
     })
+}
+
+// The first sender of a queue, if nobody has had it.
+fn first_sender(objects: &mut Objects, object: u64) -> Option<Thing> {
+    Some(Thing::Sender(objects.sender(object)?))
+}
+
+// The first receiver of a queue, if nobody has had it.
+fn first_receiver(objects: &mut Objects, object: u64) -> Option<Thing> {
+    Some(Thing::Receiver(objects.receiver(object)?))
 }
 
 // A thing that is split from that of the first process here which has this role.
@@ -65,6 +77,8 @@ pub fn split(rt: &impl Wait, thing: &mut Thing) -> Result<Thing, Fault> {
         Thing::Holder(seat) => Ok(Thing::Holder(seat.split(rt)?)),
         Thing::Guest(Some(member)) => Ok(Thing::Guest(Some(member.split(rt)?))),
         Thing::Sharer(share) => Ok(Thing::Sharer(share.split(rt)?)),
+        Thing::Sender(sender) => Ok(Thing::Sender(sender.split(rt)?)),
+        Thing::Receiver(receiver) => Ok(Thing::Receiver(receiver.split(rt)?)),
         _ => Err(Fault::NoProc),
     }
 }

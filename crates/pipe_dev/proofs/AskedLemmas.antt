@@ -7,6 +7,7 @@ use Rattle.sync_base.specs.declared.ids.RendezId.{RendezId}
 use Rattle.block_queue.specs.declared.view.Key.{Key}
 use Rattle.pipe_dev.specs.declared.answers.ReadAnswer.{ReadAnswer}
 use Rattle.pipe_dev.specs.declared.row.Row.{Row}
+use Rattle.pipe_dev.specs.BlockReads.{AsksForBlock, ReadsBlock, block_reading}
 use Rattle.pipe_dev.specs.Calls.{IsAsked, waits_by}
 use Rattle.pipe_dev.specs.Filling.{Lending}
 use Rattle.pipe_dev.specs.ReadCalls.{AsksForBytes, Calling, Reads, reading}
@@ -46,3 +47,13 @@ reads_so key row old (Err fault.NoRendez) new waited =
     absurd (is_asked_read (AsksForBytes key row) (reader_rendez row) (λ old new why asks. asks) old
     (Err fault.NoRendez) new waited)
 reads_so key row old (Err other) new waited = waited
+
+-- and of a read of a block one of those
+pub block_reads_so : (key : Key) (row : Row) (old : Calling) (answer : Result ReadAnswer Fault)
+    (new : Calling) → Waited (block_reading key row) (reader_rendez row) old answer new
+    → ReadsBlock key row old answer new
+block_reads_so key row old (Ok answer) new waited = waited
+block_reads_so key row old (Err fault.NoRendez) new waited =
+    absurd (is_asked_read (AsksForBlock key row) (reader_rendez row) (λ old new why asks. asks) old
+    (Err fault.NoRendez) new waited)
+block_reads_so key row old (Err other) new waited = waited

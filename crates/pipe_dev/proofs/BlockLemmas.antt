@@ -12,11 +12,10 @@ use Rattle.block_queue.specs.Seats.{key_of}
 use Rattle.pipe_dev.specs.declared.answers.ReadAnswer.{ReadAnswer}
 use Rattle.pipe_dev.specs.declared.answers.ReadAnswer.TheVariants as read
 use Rattle.pipe_dev.specs.declared.row.Row.{Row}
-use Rattle.pipe_dev.specs.BlockReads.{AsksForBlock}
+use Rattle.pipe_dev.specs.BlockReads.{AsksForBlock, block_reading}
 use Rattle.pipe_dev.specs.CallLaws.{BlockReadsAreSteps}
 use Rattle.pipe_dev.specs.Chain.{AddsNone, AddsRead, IsOfSteps}
 use Rattle.pipe_dev.specs.Parts.{Part, part_of, rest_of}
-use Rattle.pipe_dev.specs.Calls.{waits_by}
 use Rattle.pipe_dev.specs.ReadCalls.{Calling, calling}
 use Rattle.pipe_dev.specs.Rendezes.{reader_rendez}
 use Rattle.pipe_dev.specs.SideLaws.{BlockReadsAddToTheirEnd}
@@ -71,8 +70,7 @@ module _ (key : Key) (row : Row) where
   ends old (Err why) new room asks parts = absurd asks
 
   reads_so : (old : Calling) (answer : Result ReadAnswer Fault) (new : Calling) (parts : List Part)
-      → Waited (waits_by (AsksForBlock key row)) (reader_rendez row) old answer
-      new
+      → Waited (block_reading key row) (reader_rendez row) old answer new
       → IsOfSteps key (AddsRead Message answer new.seat.buffer) old.seat.taker parts new.seat.taker
   reads_so old answer new parts waited =
       waited_steps key Message (AsksForBlock key row) (λ buffer. ⊤) waits ends old parts

@@ -2,17 +2,20 @@
 use Rattle.std.proofs.Common.{◌≡◌, ◌⊎◌, inl, inr, ℕ, zero, suc, ◌<◌, ◌≤◌, true, false, List}
 use Rattle.std.proofs.Common.{[], ◌∷◌, ◌++◌, length, take, drop, reverse, refl, sym, ◌∙◌, ap}
 use Rattle.std.proofs.Common.{arith}
-use Rattle.std.specs.Prelude.{◌↔◌, nat_le, Option, Some, None, Result, Ok, Err, IsErrOf}
+use Rattle.std.specs.Prelude.{nat_le, Result}
 use Rattle.std.proofs.lemmas.Bool.Decides.{leb_tells, nat_tests}
 use Rattle.std.proofs.lemmas.List.{append_assoc, append-nil, reverse-append, length-drop}
+use Rattle.histories.specs.declared.account.Account.{Account}
 use Rattle.sync_base.specs.declared.fault.Fault.{Fault}
-use Rattle.sync_base.specs.declared.fault.Fault.TheVariants.{TooBig, NoRendez}
 use Rattle.sync_base.specs.declared.limits.TheConstants.{ATOMIC_SIZE}
 use Rattle.rendez_words.specs.declared.words.Words.{Words}
+use Rattle.block_queue.specs.declared.entry.Entry.{Entry}
 use Rattle.pipe_dev.specs.declared.row.Row.{Row}
 use Rattle.pipe_dev.specs.Ends.{WriteSide, IsSameWriteEnd}
 use Rattle.pipe_dev.specs.Rendezes.{OwnsRow}
-use Rattle.pipe_dev.specs.WriteCalls.{Writer, Writes, atomic_writes, atomic_writes_in, call_of}
+use Rattle.pipe_dev.specs.WriteCalls.{RunsAWrite, RunsWrite, WritesBy, atomic_writes}
+use Rattle.pipe_dev.specs.WriteCalls.{atomic_writes_in, call_of}
+use Rattle.waiting.specs.Runners.{RunPoint, Runs}
 
 -- bytes that fit are one write, whatever the fuel
 one_write : (fuel : ℕ) (bytes : List ℕ) → length bytes ≤ ATOMIC_SIZE
@@ -79,11 +82,33 @@ one_done done block others blocks is =
     ∙ ap (λ front. front ++ others) (sym (reverse-append (block ∷ []) done)))
 
 -- the end stays where it is
-pub wrote_at : (old now : WriteSide) (block : List ℕ) (before : Writer) (answer : Result ℕ Fault)
-    (after : Writer) → IsSameWriteEnd old now → Writes (call_of now block) before answer after
-    → Writes (call_of old block) before answer after
-wrote_at old now block before answer after same wrote =
-    rw (same.queue, same.row, same.writer) at wrote
+pub ran_at : {Timer : Type 0} (runs : Runs Timer) (old now : WriteSide) (block : List ℕ)
+    (before : RunPoint Timer (Account Entry)) (answer : Result ℕ Fault)
+    (after : RunPoint Timer (Account Entry)) → IsSameWriteEnd old now
+    → WritesBy runs (call_of now block) before answer after
+    → RunsAWrite (call_of now block) before.at answer after.at
+    → RunsWrite runs (call_of old block) before answer after
+ran_at runs old now block before answer after same wrote is =
+    let ran : RunsWrite runs (call_of now block) before answer after =
+    record { wrote = wrote; is_write = is } in
+    rw (same.queue, same.row, same.writer) at ran
+
+-- and so does its kernel
+pub owns_still : {words now : Words} {row row' : Row} → OwnsRow words row → now ≡ words
+    → row' ≡ row → OwnsRow now row'
+owns_still owns same same_row = rw (same, same_row) owns
+
+-- there is a first write
+pub some_write : (bytes : List ℕ)
+    → (block : List ℕ) × (others : List (List ℕ)) × (atomic_writes bytes ≡ block ∷ others)
+some_write bytes = by (leb_tells (length bytes) ATOMIC_SIZE)
+  where
+    by : ((nat_le (length bytes) ATOMIC_SIZE ≡ true) × (length bytes ≤ ATOMIC_SIZE))
+        ⊎ ((nat_le (length bytes) ATOMIC_SIZE ≡ false) × (ATOMIC_SIZE < length bytes))
+        → (block : List ℕ) × (others : List (List ℕ)) × (atomic_writes bytes ≡ block ∷ others)
+    by (inl fits) = (bytes, [], last_write bytes fits.1)
+    by (inr long) =
+        (take ATOMIC_SIZE bytes, atomic_writes (drop ATOMIC_SIZE bytes), next_atomic bytes long.1)
 
 -- the next write is cut off
 pub cut_next : (bytes left front back : List ℕ) (done : List (List ℕ)) → ATOMIC_SIZE < length left
@@ -109,32 +134,3 @@ pub all_done : (bytes left : List ℕ) (done : List (List ℕ)) → length left 
 all_done bytes left done fits cut =
     sym (one_done done left [] (atomic_writes bytes) (cut_last bytes left done fits cut)
     ∙ append-nil (reverse (left ∷ done)))
-
--- the answer of a write that was refused
-abbrev refused : Fault → Result ℕ Fault
-refused why = Err why
-
--- a piece is not too big
-pub not_too_big : (size : ℕ) (why : Fault)
-    → (IsErrOf (refused why) TooBig ↔ (ATOMIC_SIZE < size)) → size ≤ ATOMIC_SIZE
-    → ¬ (Some why ≡ Some TooBig)
-not_too_big size why tells fits is =
-    let same : refused why ≡ refused TooBig = cc in
-    let big = tells.0 same in absurd (omega (arith, big, fits))
-
-module _ (words now : Words) (row row' : Row) (same : now ≡ words) (same_row : row' ≡ row) where
-  -- the long write is refused so where the piece was
-  pub told_alike : (why : Fault) → (IsErrOf (refused why) NoRendez ↔ ¬ OwnsRow now row')
-      → ((Some why ≡ Some NoRendez) ↔ ¬ OwnsRow words row)
-  told_alike why tells =
-      let at = rw (same, same_row) at tells in (
-        λ is. let same : refused why ≡ refused NoRendez = cc in at.0 same,
-        λ none. let same = at.1 none in cc,
-      )
-
-  -- all was written, so nothing was refused
-  pub told_none : (number : ℕ) (fault : Option Fault) → fault ≡ None
-      → (IsErrOf {T = ℕ} (Ok number) NoRendez ↔ ¬ OwnsRow now row')
-      → ((fault ≡ Some NoRendez) ↔ ¬ OwnsRow words row)
-  told_none number fault none tells =
-      let at = rw (same, same_row) at tells in (λ is. cc, λ other. let no = at.1 other in cc)

@@ -11,11 +11,12 @@ use Rattle.waiting.specs.declared.wait.WaitEnd.{WaitEnd}
 use Rattle.waiting.specs.declared.wait.WaitEnd.TheVariants.{Answered, Stopped}
 use Rattle.waiting.specs.Runners.{ComesToSame, IsACall, over_at}
 use Rattle.waiting.specs.Waiting.{Ends, Point, Returns, Waited}
+use Rattle.pipe_dev.specs.BlockReads.{AsksForBlock, ReadsBlock, RunsOfBlockReadsAreBlockReads}
 use Rattle.pipe_dev.specs.Calls.{RunsAs, waits_by}
 use Rattle.pipe_dev.specs.ReadCalls.{AsksForBytes, Reads, RunsOfReadsAreReads}
 use Rattle.pipe_dev.specs.Rendezes.{reader_rendez, writer_rendez}
 use Rattle.pipe_dev.specs.WriteCalls.{AsksForRoom, RunsOfWritesAreWrites, Writes}
-use Rattle.pipe_dev.proofs.AskedLemmas.{reads_so}
+use Rattle.pipe_dev.proofs.AskedLemmas.{block_reads_so, reads_so}
 use Rattle.pipe_dev.proofs.CallLemmas.{writes_so}
 
 -- a call that comes to nothing where it leaves puts no notes back: it returns where it is over
@@ -72,3 +73,9 @@ pub run_read : RunsOfReadsAreReads
 run_read key row old new answer is =
     runs_as (AsksForBytes key row) (reader_rendez row) old (Reads key row old)
     (reads_so key row old) answer new is
+
+-- and so of a read of a block
+pub run_block_read : RunsOfBlockReadsAreBlockReads
+run_block_read key row old new answer is =
+    runs_as (AsksForBlock key row) (reader_rendez row) old (ReadsBlock key row old)
+    (block_reads_so key row old) answer new is

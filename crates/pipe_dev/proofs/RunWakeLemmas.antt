@@ -8,10 +8,12 @@ use Rattle.waiting.specs.declared.call.Reply.{Reply}
 use Rattle.waiting.specs.Runners.{ComesToSame, IsACall, over_at}
 use Rattle.waiting.specs.Waiting.{Point, Waited}
 use Rattle.waiting.specs.Wakeups.{HasGoneOn}
+use Rattle.pipe_dev.specs.BlockReads.{AsksForBlock}
 use Rattle.pipe_dev.specs.Calls.{waits_by}
 use Rattle.pipe_dev.specs.ReadCalls.{AsksForBytes}
 use Rattle.pipe_dev.specs.Rendezes.{reader_rendez, writer_rendez}
-use Rattle.pipe_dev.specs.WaitLaws.{RunReadsWakeEachWriter, RunWritesWakeTheReader}
+use Rattle.pipe_dev.specs.WaitLaws.{RunBlockReadsWakeEachWriter, RunReadsWakeEachWriter}
+use Rattle.pipe_dev.specs.WaitLaws.{RunWritesWakeTheReader}
 use Rattle.pipe_dev.specs.WriteCalls.{AsksForRoom}
 use Rattle.pipe_dev.proofs.OutcomeLemmas.{LastTold, told_last}
 use Rattle.pipe_dev.proofs.WaitLemmas.{writes_wake_the_reader, reads_wake_each_writer}
@@ -58,6 +60,20 @@ run_writes_wake sizes s shows call number old new (inr is) gone =
 pub run_reads_wake : RunReadsWakeEachWriter
 run_reads_wake sizes s shows key row answer old new is gone =
     let last = last_told (AsksForBytes key row) (reader_rendez row) s.views old new answer is
+    gone in
+    record {
+      before = last.before;
+      process = last.process;
+      asked = last.asked;
+      released = λ number woken.
+          reads_wake_each_writer sizes s shows row number last.before.process last.process woken
+          last.of;
+    }
+
+-- and so of a read of a block
+pub run_block_reads_wake : RunBlockReadsWakeEachWriter
+run_block_reads_wake sizes s shows key row answer old new is gone =
+    let last = last_told (AsksForBlock key row) (reader_rendez row) s.views old new answer is
     gone in
     record {
       before = last.before;

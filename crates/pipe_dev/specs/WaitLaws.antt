@@ -17,6 +17,7 @@ use Rattle.block_queue.specs.History.{opening_state}
 use Rattle.block_queue.specs.Meaning.{queue_meaning}
 use Rattle.pipe_dev.specs.declared.answers.ReadAnswer.{ReadAnswer}
 use Rattle.pipe_dev.specs.declared.row.Row.{Row}
+use Rattle.pipe_dev.specs.BlockReads.{AsksForBlock, RunsABlockRead}
 use Rattle.pipe_dev.specs.ReadCalls.{AsksForBytes, Calling, RunsARead}
 use Rattle.pipe_dev.specs.Rendezes.{WakesAll, WakesWith, reader_rendez, writer_rendez}
 use Rattle.pipe_dev.specs.WriteCalls.{WriteCall, Writer, Accepts, RunsAWrite}
@@ -125,3 +126,20 @@ RunReadsWakeEachWriter =
     → (key : Key) (row : Row) (answer : ReadAnswer) (old new : Calling)
     → RunsARead key row old (Ok answer) new → HasGoneOn s.views new.process
     → LastTryReleases (world_of sizes.procs sizes.rendez shows.run) key row answer new
+
+-- the last request of a read of a block with this answer, and whom it released
+pub record LastBlockReleases (state : State) (key : Key) (row : Row) (answer : ReadAnswer)
+    (new : Calling) : Type 0 where
+  pub before : Calling
+  pub process : Process
+  pub asked : AsksForBlock key row before (Done answer) (record new { process = process })
+  pub released : (number : ℕ) → WakesWith row (Some number) before.process process
+      → ReleasesWriters state row number
+
+-- The same for a read of a block.
+abbrev pub RunBlockReadsWakeEachWriter : Type 0
+RunBlockReadsWakeEachWriter =
+    (sizes : Sizes) (s : _) (shows : ShowsCore sizes s)
+    → (key : Key) (row : Row) (answer : ReadAnswer) (old new : Calling)
+    → RunsABlockRead key row old (Ok answer) new → HasGoneOn s.views new.process
+    → LastBlockReleases (world_of sizes.procs sizes.rendez shows.run) key row answer new

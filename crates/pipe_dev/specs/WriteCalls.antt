@@ -183,3 +183,50 @@ pub record WritesLong (call : WriteCall) (old : Writer) (long : Long) (new : Wri
   pub written : WritesEach call done old between
   pub taken : long.taken ≡ bytes_in done
   pub ended : EndsLong call done between long.fault new
+
+-- ---- a long write as it is run
+
+-- a long write that was refused with this fault before its first write, and did nothing
+pub record IsLongRefusedAs {At : Type 0} (why : Fault) (old : At) (long : Long) (new : At) :
+    Type 0 where
+  pub long_is : long ≡ record { taken = 0; fault = Some why }
+  pub same : new ≡ old
+
+module _ {Timer : Type 0} (runs : Runs Timer) where
+  -- a write as it is run, with this answer; and whatever its runner is, it was a write
+  pub record RunsWrite (call : WriteCall) (old : RunPoint Timer (Account Entry))
+      (answer : Result ℕ Fault) (new : RunPoint Timer (Account Entry)) : Type 0 where
+    pub wrote : WritesBy runs call old answer new
+    pub is_write : RunsAWrite call old.at answer new.at
+
+  -- a write that was accepted, with some number
+  pub record RunsWell (call : WriteCall) (old new : RunPoint Timer (Account Entry)) :
+      Type 0 where
+    pub number : ℕ
+    pub accepted : RunsWrite call old (Ok number) new
+
+  -- each of these writes of a long write was accepted, one after the other, the newest first
+  abbrev pub RunsEach : WriteCall → List (List ℕ) → RunPoint Timer (Account Entry)
+      → RunPoint Timer (Account Entry) → Type 0
+  RunsEach call [] old new = new ≡ old
+  RunsEach call (block ∷ blocks) old new =
+      OneMore (RunsEach call blocks old) (RunsWell (call_for call block)) new
+
+  -- the long write ended like this: all was written, or the next write got this fault
+  abbrev pub EndsLongBy : WriteCall → List (List ℕ) → RunPoint Timer (Account Entry)
+      → Option Fault → RunPoint Timer (Account Entry) → Type 0
+  EndsLongBy call done old None new = (new ≡ old) × (reverse done ≡ atomic_writes call.bytes)
+  EndsLongBy call done old (Some why) new =
+      (block : List ℕ) × (others : List (List ℕ))
+      × (atomic_writes call.bytes ≡ reverse done ++ block ∷ others)
+      × RunsWrite (call_for call block) old (Err why) new
+
+  -- What a long write did that was not refused at once: each of its writes was run by this runner,
+  -- up to the first that was not accepted; it counts the bytes of the writes that were.
+  pub record WritesLongBy (call : WriteCall) (old : RunPoint Timer (Account Entry)) (long : Long)
+      (new : RunPoint Timer (Account Entry)) : Type 0 where
+    pub done : List (List ℕ)
+    pub between : RunPoint Timer (Account Entry)
+    pub written : RunsEach call done old between
+    pub taken : long.taken ≡ bytes_in done
+    pub ended : EndsLongBy call done between long.fault new

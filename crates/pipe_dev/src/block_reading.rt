@@ -1,10 +1,9 @@
 //! How a direction is read block by block. A block changes hands, and no byte is copied to another.
 ghost use Rattle.block_queue.specs.Seats.{key_of};
-ghost use Rattle.pipe_dev.specs.BlockReads.{AsksForBlock};
+ghost use Rattle.pipe_dev.specs.BlockReads.{block_reading};
 ghost use Rattle.pipe_dev.specs.Ends.{IsReadState};
 ghost use Rattle.pipe_dev.specs.Filling.{Lending};
 ghost use Rattle.pipe_dev.specs.FillSteps.{block_lending};
-ghost use Rattle.pipe_dev.specs.Calls.{waits_by};
 ghost use Rattle.pipe_dev.specs.Rendezes.{OwnsRow};
 
 use crate::answers::ReadAnswer;
@@ -18,16 +17,17 @@ use sleep_wakeup::Proc;
 use std::mem;
 use std::sync::Wait;
 use sync_base::{Fault, NoProbe};
-use waiting::{Reply, WaitingCall, wait_for};
+use waiting::{Forever, Reply, Runner, WaitingCall};
 
 impl<'p> ReadEnd<'p> {
     ghost use Rattle.std.specs.Prelude.{◌≡◌, ◌↔◌, IsErrOf};
     ghost use Rattle.sync_base.specs.declared.fault.Fault.TheVariants.{NoRendez};
     ghost use Rattle.block_queue.specs.Seats.{key_of};
-    ghost use Rattle.pipe_dev.specs.BlockReads.{ReadsBlock};
+    ghost use Rattle.pipe_dev.specs.BlockReads.{ReadsBlock, ReadsBlockBy, RunsABlockRead};
     ghost use Rattle.pipe_dev.specs.Ends.{IsSameReadEnd};
-    ghost use Rattle.pipe_dev.specs.ReadCalls.{calling};
+    ghost use Rattle.pipe_dev.specs.ReadCalls.{calling, run_call};
     ghost use Rattle.pipe_dev.specs.Rendezes.{OwnsRow};
+    ghost use Rattle.pipe_dev.specs.WriteCalls.{IsRefusedAs};
 
     /// Reads all that is left of the write that was begun, or else the next write. No byte is
     /// copied to another block: this block becomes the block that was written, so its length is
@@ -57,6 +57,43 @@ impl<'p> ReadEnd<'p> {
         ensures end { IsSameReadEnd self.old self.new }
         ensures words { proc.new.words ≡ proc.old.words }
     {
+        self.read_block_by(rt, proc, block, &Forever, &mut ())
+    }
+
+    /// A `read_block` that waits as its runner does. Takes no memory. Own; bread of the kernel's
+    /// devices waits as long as it takes.
+    ///
+    /// Refuses, in this order, as `NoRendez` as `read_block` does, and where it would wait as its
+    /// runner does; a refused read got nothing, and the block is as it was.
+    pub fn read_block_by<R: Wait, W: Runner>(
+        &mut self,
+        rt: &R,
+        proc: &mut Proc<'_>,
+        block: &mut Vec<u8>,
+        runner: &W,
+        timer: &mut W::Timer,
+    ) -> Result<ReadAnswer, Fault>
+        requires timer { W.rests runner.now timer.old }
+
+        // A process of a kernel that has too few Rendez for the direction is refused.
+        ensures no_rendez { ¬ OwnsRow proc.old.words self.old.row → IsRefusedAs NoRendez
+            (run_call (calling self.old proc.old block.old.items) timer.old) result
+            (run_call (calling self.new proc.new block.new.items) timer.new) }
+
+        // Else it was run so; and whatever its runner is, it was a read of a block.
+        ensures read { OwnsRow proc.old.words self.old.row
+            → ReadsBlockBy (W.runs runner.now) (key_of self.old.queue) self.old.row
+            (run_call (calling self.old proc.old block.old.items) timer.old) result
+            (run_call (calling self.new proc.new block.new.items) timer.new) }
+        ensures is_read { OwnsRow proc.old.words self.old.row
+            → RunsABlockRead (key_of self.old.queue) self.old.row
+            (calling self.old proc.old block.old.items) result
+            (calling self.new proc.new block.new.items) }
+        ensures end { IsSameReadEnd self.old self.new }
+        ensures words { proc.new.words ≡ proc.old.words }
+        ensures timer { W.rests runner.now timer.new }
+        ensures kept { W.kept timer.new ≡ W.kept timer.old }
+    {
         if !self.row.is_known_to(proc) {
             return Err(Fault::NoRendez);
         }
@@ -64,7 +101,7 @@ impl<'p> ReadEnd<'p> {
         let call = BlockRead { queue, row };
         let rendez = row.reader();
         mem::swap(&mut state.block, block);
-        let answer = wait_for(rt, proc, rendez, &call, state, &mut [], &mut NoProbe);
+        let answer = runner.run(rt, proc, rendez, &call, state, &mut [], timer, &mut NoProbe);
         mem::swap(&mut state.block, block);
         answer
     }
@@ -94,7 +131,7 @@ impl<'q> WaitingCall for BlockRead<'q> {
 
     ghost sight = { λ state buffer. block_lending state };
 
-    ghost promise = { λ call. waits_by (AsksForBlock (key_of call.queue.now) call.row.now) };
+    ghost promise = { λ call. block_reading (key_of call.queue.now) call.row.now };
 
     fn begin<R: Wait>(
         &self,

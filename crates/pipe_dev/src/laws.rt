@@ -25,7 +25,9 @@ ghost use Rattle.pipe_dev.specs.WaitLaws.{
   WaitingWritersAreWokenAbove,
   RunWritesWakeTheReader,
   RunReadsWakeEachWriter,
+  RunBlockReadsWakeEachWriter,
 };
+ghost use Rattle.pipe_dev.specs.BlockReads.{RunsOfBlockReadsAreBlockReads};
 ghost use Rattle.pipe_dev.specs.ReadCalls.{RunsOfReadsAreReads};
 ghost use Rattle.pipe_dev.specs.WriteCalls.{RunsOfWritesAreWrites};
 
@@ -76,6 +78,7 @@ pub fn each_write_is_read_whole_and_once()
 pub fn runs_are_calls()
     ensures writes { RunsOfWritesAreWrites }
     ensures reads { RunsOfReadsAreReads }
+    ensures block_reads { RunsOfBlockReadsAreBlockReads }
 {}
 
 /// No wakeup of a call is lost, whatever its runner is: once it has returned, the process that its
@@ -83,4 +86,5 @@ pub fn runs_are_calls()
 pub fn runs_wake()
     ensures reader_woken { RunWritesWakeTheReader }
     ensures writers_woken { RunReadsWakeEachWriter }
+    ensures writers_woken_by_block { RunBlockReadsWakeEachWriter }
 {}

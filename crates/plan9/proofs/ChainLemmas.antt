@@ -1,10 +1,12 @@
 -- Seats that were given one by another, and one more.
-use Rattle.std.proofs.Common.{◌≡◌, ◌+◌, ◌++◌, List, [], ◌∷◌, length, refl, subst, sym}
-use Rattle.std.proofs.Common.{Result, Ok, Err, IfErr}
+use Rattle.std.proofs.Common.{◌≡◌, ◌+◌, ◌++◌, ℕ, List, [], ◌∷◌, length, refl, subst, sym}
+use Rattle.std.proofs.Common.{Result, Ok, Err, IfOk, IfErr, OnErr, inl, inr}
 use Rattle.std.specs.Result.{IsErrAnd}
 use Rattle.std.specs.List.{AllByRecursion}
 use Rattle.std.proofs.lemmas.List.{length-append}
-use Rattle.plan9.specs.Chains.{Chain}
+use Rattle.sync_base.specs.declared.fault.Fault.{Fault}
+use Rattle.sync_base.specs.declared.fault.Fault.TheVariants.{Memory, NoProc}
+use Rattle.plan9.specs.Chains.{AreChained, Chain, MayHave, RunsOut, WhyNoRoom, WhyNotMany}
 
 -- what is told as it came is told for its reason
 pub told_as : {A Why : Type 0} (P : Why → Type 0) (why : Why) (answer : Result A Why)
@@ -46,3 +48,53 @@ module _ {Seat : Type 0} (Gives : Seat → Seat → Seat → Type 0) where
   all_in_chain P keeps (giver ∷ givers) first last (next, gives, rest) one =
       let both = keeps first giver next gives one in
       (both.0, all_in_chain P keeps givers next last rest both.1)
+
+module _ {Seat : Type 0} (Gives : Seat → Seat → Seat → Type 0) (IsFirst : Seat → Type 0)
+    (first : Seat) (first_is : IsFirst first) where
+  -- so many from the first one on are so many of the object
+  pub many_of : {List' : Type 0} (items : List' → List Seat) (count : ℕ)
+      (answer : Result List' Fault)
+      → IfOk answer (λ list. AreChained Gives (λ one. one ≡ first) count (items list))
+      → IfOk answer (λ list. AreChained Gives IsFirst count (items list))
+  many_of items count (Ok list) chained =
+      record {
+        count_is = chained.count_is;
+        first = chained.first;
+        first_is = subst IsFirst (sym chained.first_is) first_is;
+        givers = chained.givers;
+        last = chained.last;
+        chain = chained.chain;
+        seats_are = chained.seats_are;
+      }
+  many_of items count (Err why) chained = tt
+
+  -- and where the last of them could give none, they have run out
+  pub runs_out_of : (KnowsNone : Seat → Seat → Type 0) (Taken : Type 0) (procs count : ℕ)
+      {List' : Type 0} (answer : Result List' Fault) → MayHave procs count
+      → IfErr answer (λ why. why ≡ NoProc)
+      → OnErr answer (RunsOut Gives (λ one. one ≡ first) KnowsNone count)
+      → IfErr answer (WhyNotMany Gives IsFirst KnowsNone Taken procs count)
+  runs_out_of KnowsNone Taken procs count (Ok list) may is out = tt
+  runs_out_of KnowsNone Taken procs count (Err why) may is out =
+      subst (WhyNotMany Gives IsFirst KnowsNone Taken procs count) (sym is)
+      (inr (
+        may,
+        inr (record {
+          first = out.first;
+          first_is = subst IsFirst (sym out.first_is) first_is;
+          givers = out.givers;
+          before = out.before;
+          after = out.after;
+          chain = out.chain;
+          fewer = out.fewer;
+          none = out.none;
+        }),
+      ))
+
+-- where there is no room for so many, there are not so many
+pub no_room : {Seat : Type 0} (Gives : Seat → Seat → Seat → Type 0) (IsFirst : Seat → Type 0)
+    (KnowsNone : Seat → Seat → Type 0) (Taken : Type 0) (procs count : ℕ) (why : Fault)
+    → WhyNoRoom procs count why → WhyNotMany Gives IsFirst KnowsNone Taken procs count why
+no_room Gives IsFirst KnowsNone Taken procs count NoProc none = inl none
+no_room Gives IsFirst KnowsNone Taken procs count Memory may = may
+no_room Gives IsFirst KnowsNone Taken procs count other none = absurd none

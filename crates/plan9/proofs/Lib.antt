@@ -2,6 +2,7 @@ mod ChainLemmas
 mod ForkLemmas
 mod PipesLemmas
 mod ReadingLemmas
+mod SemaphoreLemmas
 mod SharingLemmas
 mod StreamLemmas
 mod WorkedChildren
@@ -12,10 +13,12 @@ mod WorkedMembers
 mod WorkedNotings
 mod WorkedPieces
 mod WorkedPlans
+mod WorkedQueues
 mod WorkedReads
 mod WorkedSemaphores
 mod WorkedSharings
 mod WorkedStreams
 mod WorkedTickers
+mod WorkedTimedSharings
 mod WorkedWatches
 mod WorkedWithin

@@ -1,6 +1,9 @@
 -- What a call of a shared end is, in the words of the end that lay there.
 use Rattle.std.proofs.Common.{◌≡◌, ◌↔◌, ◌⊎◌, ◌+◌, ℕ, true, List, Option, Some, None, Result, Ok}
-use Rattle.std.proofs.Common.{Err, IsErrOf, IfOk, OnErr, arith, inl, inr, ⊎_elim, ◌∙◌}
+use Rattle.std.proofs.Common.{Err, IsErrOf, IfOk, OnErr, arith, inl, inr, refl, subst, sym, ⊎_elim}
+use Rattle.std.proofs.Common.{◌∙◌}
+use Rattle.std.specs.Prelude.{⊤}
+use Rattle.std.specs.Result.{IsErrAnd}
 use Rattle.std.proofs.lemmas.Bool.{cases_lt}
 use Rattle.sync_base.specs.declared.fault.Fault.{Fault}
 use Rattle.sync_base.specs.declared.fault.Fault.TheVariants.{NoRendez}
@@ -14,12 +17,16 @@ use Rattle.pipe_dev.specs.Ends.{ReadSide, IsSameReadEnd}
 use Rattle.pipe_dev.specs.ReadCalls.{Tries, calling}
 use Rattle.plan9.specs.declared.place.Receipt.{Receipt}
 use Rattle.plan9.specs.Callers.{Reader, reader}
+use Rattle.plan9.specs.Known.{IfKnown}
 use Rattle.plan9.specs.Places.{IsLaid}
 use Rattle.plan9.specs.Readings.{LiesIn, read_answer}
 use Rattle.plan9.specs.Semaphores.{Seated, IsSameSeat}
 use Rattle.plan9.specs.Sharings.{AsksForTurn, AsksNow, Buffers, CallsAndLays, HasTurn, InTurn}
 use Rattle.plan9.specs.Sharings.{KnowsTurns, ReadsOnce, Sharer, TriesBy, TriesInTurn, TriesOnce}
-use Rattle.plan9.specs.Sharings.{Turn, turn}
+use Rattle.plan9.specs.Sharings.{Turn, buffers, sharer, turn, turn_of}
+use Rattle.plan9.specs.TimedSharings.{AsksUntil, EndCall, HasTimedTurn, InTimedTurn}
+use Rattle.plan9.specs.TimedSharings.{WatchedSharer, watched_sharer, watches}
+use Rattle.plan9.specs.Watches.{Watching}
 use Rattle.plan9.proofs.ReadingLemmas.{piece_lies}
 
 -- a call of the end that lay there is one of the shared end, as it has the same direction; and
@@ -89,6 +96,49 @@ pub has_turn : (Call : Buffers → Result ReadAnswer Fault → Reader → Reader
     → HasTurn (AsksForTurn (Ok tt)) old (Call buffer answer) new → InTurn Call old buffer answer new
 has_turn Call old buffer (Ok answer) new turn = turn
 has_turn Call old buffer (Err why) new turn = inr (inr turn)
+
+-- and so where it waited until a moment
+pub has_timed_turn : (moment : ℕ) (Call : EndCall) (old : WatchedSharer) (buffer : Buffers)
+    (answer : Result ReadAnswer Fault) (new : WatchedSharer)
+    → HasTimedTurn moment old (λ watch. Call watch buffer answer) new
+    → InTimedTurn moment Call old buffer answer new
+has_timed_turn moment Call old buffer (Ok answer) new turn = turn
+has_timed_turn moment Call old buffer (Err why) new turn = inr (inr turn)
+
+-- a share whose seat is as it was is the same
+same_sharer : (old : Sharer) (seat : Seated) (proc : Running) → seat ≡ old.share.seat
+    → proc ≡ old.proc
+    → sharer (record { seat = seat; place = old.share.place }) proc ≡ old
+same_sharer old seat proc seat_is proc_is = rw seat_is (rw proc_is refl)
+
+-- who got no turn by a moment may not ask for one, or asked until then and got none
+pub has_no_timed_turn : (moment : ℕ) (Call : EndCall) (old : WatchedSharer) (bytes : List ℕ)
+    (why : Fault) (answer : Result ReadAnswer Fault) (seat : Seated) (proc : Running)
+    (watch : Watching) → IsErrAnd answer (λ told. told ≡ why)
+    → IfKnown {A = ⊤} (KnowsTurns (turn_of old.sharer)) (Err why)
+    ((seat ≡ old.sharer.share.seat) × (proc ≡ old.sharer.proc) × (watch ≡ old.watch))
+    (AsksUntil moment (watches old.watch watch) (Err why) (turn_of old.sharer) (turn seat proc))
+    → InTimedTurn moment Call old (buffers bytes bytes) answer
+    (watched_sharer (record { seat = seat; place = old.sharer.share.place }) proc watch)
+has_no_timed_turn moment Call old bytes why (Ok answer) seat proc watch told known = absurd told
+has_no_timed_turn moment Call old bytes why (Err other) seat proc watch told known =
+    let new = watched_sharer (record { seat = seat; place = old.sharer.share.place }) proc watch in
+    subst (λ it. InTimedTurn moment Call old (buffers bytes bytes) (Err it) new) (sym told)
+    (⊎_elim
+    (λ may. inr (inl (record { knows = may; asks = known.called may; buffer_same = refl })))
+    (λ may_not.
+    let nothing = known.refused may_not in
+    let is = known.no_rendez.1 may_not in
+    inl (
+      record {
+        unknown = may_not;
+        why_is = cc;
+        same = same_sharer old.sharer seat proc nothing.0 nothing.1;
+        buffer_same = refl;
+      },
+      nothing.2,
+    ))
+    (may_ask (turn_of old.sharer)))
 
 -- and so where it waited for none
 pub has_turn_now : (old : Sharer) (buffer : Buffers) (answer : Result TryAnswer Fault)

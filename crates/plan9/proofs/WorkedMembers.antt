@@ -17,7 +17,7 @@ use Rattle.tag_space.specs.Spaces.{IsFirstMember, IsFurtherMember, IsNewSpace}
 use Rattle.waiting.specs.Runners.{IsACall, run_point}
 use Rattle.waiting.specs.Waiting.{point}
 use Rattle.plan9.specs.Memberships.{Calling, Hosting, Membered, IsFirstOf, IsFurtherMemberOf}
-use Rattle.plan9.specs.Memberships.{IsNewSpaceFor, IsRowOfSpace, IsSame, IsSpareMember}
+use Rattle.plan9.specs.Memberships.{IsNewSpaceFor, IsSame, IsSpareMember, SpaceEndsBefore}
 use Rattle.plan9.specs.Memberships.{AreMembers, GivesAnother, KnowsNoMember, MayGive}
 use Rattle.plan9.specs.Memberships.{MeetsInWords, MeetsOnce, MeetsUntil, WatchedCall}
 use Rattle.plan9.specs.Memberships.{WhyNoMembers, calls}
@@ -30,11 +30,11 @@ module _ (space : TagSpace) (member : Member) where
   a_member_of_another_space : ¬ IsMemberOf space member → ¬ IsSpareMember space (Some member)
   a_member_of_another_space other spare = other spare
 
-  a_space_of_another_row : space.first.0 ≢ 3 → ¬ IsRowOfSpace space 3 2
-  a_space_of_another_row other row = other row.first_is
+  a_space_of_another_row : space.first.0 ≡ 4 → space.procs ≡ 2 → ¬ SpaceEndsBefore space 5
+  a_space_of_another_row first procs row = omega (arith, first, procs, row)
 
-  a_space_of_fewer : space.procs ≢ 2 → ¬ IsRowOfSpace space 3 2
-  a_space_of_fewer other row = other row.procs_are
+  a_space_of_fewer : space.first.0 ≡ 3 → space.procs ≡ 1 → ¬ SpaceEndsBefore space 5
+  a_space_of_fewer first procs row = omega (arith, first, procs, row)
 
 module _ (hosting : Hosting) (membered : Membered) where
   -- somebody has the first member of a new space; or the space is not new, or has another size; or
@@ -120,7 +120,7 @@ module _ (hosting : Hosting) (membered : Membered) where
   no_member_is_no_member may = let one = may.one in omega (arith, one)
 
   three_of_two_members : hosting.space.procs ≡ 2 → ¬ MayGive hosting 3
-  three_of_two_members two may = let members = may.members in omega (arith, two, members)
+  three_of_two_members two may = let within = may.within in omega (arith, two, within)
 
   -- so many are refused as too many though the first is there and none was refused; for want of
   -- memory though they are too many; and there is no other reason

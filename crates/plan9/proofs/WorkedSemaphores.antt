@@ -13,8 +13,8 @@ use Rattle.semaphore.specs.declared.sema.Sema.{Sema}
 use Rattle.semaphore.specs.declared.sema.SemaSeat.{SemaSeat}
 use Rattle.semaphore.specs.Seats.{IsSemaSeatOf}
 use Rattle.plan9.specs.Known.{IfKnown}
-use Rattle.plan9.specs.Semaphores.{Seating, Seated, IsRowOf, IsSpareOf, IsNew, IsFirst, IsSameSeat}
-use Rattle.plan9.specs.Semaphores.{IsFurther, KnowsNoSeat, GivesSeat, AreSeats, MaySeat}
+use Rattle.plan9.specs.Semaphores.{Seating, Seated, EndsBefore, IsSpareOf, IsNew, IsFirst}
+use Rattle.plan9.specs.Semaphores.{IsFurther, IsSameSeat, KnowsNoSeat, GivesSeat, AreSeats, MaySeat}
 use Rattle.plan9.specs.Semaphores.{WhyNoSeats, got, got_now, seat_point}
 use Rattle.plan9.specs.Chains.{Chain, RunsOut}
 use Rattle.plan9.specs.Watches.{Watching}
@@ -51,11 +51,12 @@ module _ (semaphore : Sema) (seat : SemaSeat) where
   a_seat_of_another_semaphore : ¬ IsSemaSeatOf semaphore seat → ¬ IsSpareOf semaphore (Some seat)
   a_seat_of_another_semaphore other spare = other spare
 
-  a_semaphore_of_another_row : semaphore.first ≢ 3 → ¬ IsRowOf semaphore 3 2
-  a_semaphore_of_another_row other row = other row.first_is
+  a_semaphore_of_another_row : semaphore.first ≡ 4 → semaphore.procs ≡ 2
+      → ¬ EndsBefore semaphore 5
+  a_semaphore_of_another_row first procs row = omega (arith, first, procs, row)
 
-  a_semaphore_of_fewer : semaphore.procs ≢ 2 → ¬ IsRowOf semaphore 3 2
-  a_semaphore_of_fewer other row = other row.procs_are
+  a_semaphore_of_fewer : semaphore.first ≡ 3 → semaphore.procs ≡ 1 → ¬ EndsBefore semaphore 5
+  a_semaphore_of_fewer first procs row = omega (arith, first, procs, row)
 
 module _ (seating : Seating) (seated : Seated) where
   -- somebody has the first seat of a new semaphore
@@ -183,7 +184,7 @@ module _ (seating : Seating) (seated : Seated) where
   no_seat_is_no_seat may = let one = may.one in omega (arith, one)
 
   three_of_two_seats : seating.sema.procs ≡ 2 → ¬ MaySeat seating 3
-  three_of_two_seats two may = let seats = may.seats in omega (arith, two, seats)
+  three_of_two_seats two may = let within = may.within in omega (arith, two, within)
 
 -- ---- and why there are none
 

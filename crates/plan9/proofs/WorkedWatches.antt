@@ -104,7 +104,7 @@ module _ (clock : Clocked) (watch : Watching) where
   no_watch_is_no_watch may = let one = may.one in omega (arith, one)
 
   three_of_two_watches : clock.timers.procs ≡ 2 → ¬ MayWatch clock 3
-  three_of_two_watches two may = let watches = may.watches in omega (arith, two, watches)
+  three_of_two_watches two may = let within = may.within in omega (arith, two, within)
 
   -- so many are refused as too many though the first is there and none was refused; for want of
   -- memory though they are too many; and there is no other reason

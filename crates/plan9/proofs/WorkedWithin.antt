@@ -4,14 +4,18 @@ use Rattle.sync_base.specs.declared.fault.Fault.{Fault}
 use Rattle.sync_base.specs.declared.fault.Fault.TheVariants.{BadCount, NoRendez, TooBig}
 use Rattle.sync_base.specs.declared.limits.TheConstants.{ATOMIC_SIZE}
 use Rattle.block_queue.specs.Seats.{key_of}
+use Rattle.pipe_dev.specs.declared.answers.Long.{Long}
 use Rattle.pipe_dev.specs.declared.answers.ReadAnswer.{ReadAnswer}
+use Rattle.pipe_dev.specs.BlockReads.{ReadsBlockBy, RunsABlockRead}
 use Rattle.pipe_dev.specs.Ends.{IsSameWriteEnd}
 use Rattle.pipe_dev.specs.ReadCalls.{ReadsBy, RunsARead}
-use Rattle.pipe_dev.specs.WriteCalls.{IsRefusedAs, RunsAWrite, WritesBy, call_of, writer_of}
+use Rattle.pipe_dev.specs.WriteCalls.{IsLongRefusedAs, IsRefusedAs, RunsAWrite, WritesBy}
+use Rattle.pipe_dev.specs.WriteCalls.{WritesLongBy, call_of, writer_of}
 use Rattle.plan9.specs.Callers.{Writer, IsSameWriter}
 use Rattle.plan9.specs.Watches.{until}
-use Rattle.plan9.specs.Within.{WatchedRead, WatchedWrite, MayRead, MayWrite, ReadsWithin}
-use Rattle.plan9.specs.Within.{WritesWithin, read_call, read_point, write_point}
+use Rattle.plan9.specs.Within.{WatchedRead, WatchedWrite, MayRead, MayWrite, ReadsBlockWithin}
+use Rattle.plan9.specs.Within.{ReadsWithin, WritesLongWithin, WritesWithin, read_call, read_point}
+use Rattle.plan9.specs.Within.{write_point}
 
 module _ (old new : Writer) where
   a_writer_of_another_end : ¬ IsSameWriteEnd old.end new.end → ¬ IsSameWriter old new
@@ -64,3 +68,32 @@ module _ (moment : ℕ) (old new : WatchedWrite) (bytes : List ℕ) (answer : Re
       answer (writer_of new.writer.end new.writer.proc)
       → ¬ WritesWithin moment old bytes answer new
   nothing_is_written fits own other writes = other (writes.is_write fits own)
+
+module _ (moment : ℕ) (old new : WatchedRead) (answer : Result ReadAnswer Fault) where
+  another_kernel_reads_a_block : ¬ MayRead old
+      → ¬ IsRefusedAs NoRendez (read_point old) answer (read_point new)
+      → ¬ ReadsBlockWithin moment old answer new
+  another_kernel_reads_a_block foreign other reads = other (reads.no_rendez foreign)
+
+  -- it waits for another moment, or it is no read of a block
+  block_read_until_another_moment : MayRead old
+      → ¬ ReadsBlockBy (until old.watch moment) (key_of old.reader.end.queue) old.reader.end.row
+      (read_point old) answer (read_point new) → ¬ ReadsBlockWithin moment old answer new
+  block_read_until_another_moment own other reads = other (reads.read own)
+
+  no_block_is_read : MayRead old
+      → ¬ RunsABlockRead (key_of old.reader.end.queue) old.reader.end.row (read_call old) answer
+      (read_call new) → ¬ ReadsBlockWithin moment old answer new
+  no_block_is_read own other reads = other (reads.is_read own)
+
+module _ (moment : ℕ) (old new : WatchedWrite) (bytes : List ℕ) (long : Long) where
+  another_kernel_writes_long : ¬ MayWrite old
+      → ¬ IsLongRefusedAs NoRendez (write_point old) long (write_point new)
+      → ¬ WritesLongWithin moment old bytes long new
+  another_kernel_writes_long foreign other writes = other (writes.no_rendez foreign)
+
+  -- one of its writes waits for another moment, or is no write
+  written_long_until_another_moment : MayWrite old
+      → ¬ WritesLongBy (until old.watch moment) (call_of old.writer.end bytes) (write_point old)
+      long (write_point new) → ¬ WritesLongWithin moment old bytes long new
+  written_long_until_another_moment own other writes = other (writes.wrote own)

@@ -15,6 +15,8 @@ pub mod Readings
 pub mod Sharings
 pub mod Streams
 pub mod Within
+pub mod Queues
+pub mod TimedSharings
 pub mod Tickers
 pub mod Memberships
 pub mod MemberForks
@@ -61,6 +63,16 @@ pub use Rattle.semaphore.specs.Releasing
 pub use Rattle.semaphore.specs.Seats as SemaSeats
 pub use Rattle.semaphore.specs.SemaLaws
 pub use Rattle.semaphore.specs.Timing
+-- queues of values
+pub use Rattle.messages.specs.Handles
+pub use Rattle.messages.specs.HangingUp
+pub use Rattle.messages.specs.Known as QueueKnown
+pub use Rattle.messages.specs.MessageLaws
+pub use Rattle.messages.specs.Opening as MessageOpening
+pub use Rattle.messages.specs.Receiving
+pub use Rattle.messages.specs.Sending
+-- teams
+pub use Rattle.together.specs.Teams
 -- how a call waits
 pub use Rattle.waiting.specs.Runners
 pub use Rattle.waiting.specs.Waiting

@@ -1,7 +1,6 @@
 -- What clauses see of a tag space, and of the members of it.
-use Rattle.std.specs.Prelude.{◌≡◌, ◌⊎◌, ◌≤◌, ◌<◌, ⊤, ℕ, List, Option, Some, None, Result}
+use Rattle.std.specs.Prelude.{◌≡◌, ◌+◌, ⊤, ℕ, List, Option, Some, None, Result}
 use Rattle.sync_base.specs.declared.fault.Fault.{Fault}
-use Rattle.sync_base.specs.declared.fault.Fault.TheVariants as fault
 use Rattle.kernel_lock.specs.Seats.{KnowsAllGiven}
 use Rattle.sleep_wakeup.specs.Kernel.{Running, Unused}
 use Rattle.tag_space.specs.declared.member.Member.{Member}
@@ -13,7 +12,7 @@ use Rattle.tag_space.specs.Rendezvous.{Offered}
 use Rattle.tag_space.specs.Spaces.{IsFirstMember, IsFurtherMember, IsNewSpace}
 use Rattle.waiting.specs.Runners.{IsACall, run_point}
 use Rattle.waiting.specs.Waiting.{point}
-use Rattle.plan9.specs.Chains.{AreChained, RunsOut}
+use Rattle.plan9.specs.Chains.{AreChained, MayHave, WhyNotMany}
 use Rattle.plan9.specs.Watches.{Watching, until}
 
 -- a tag space, and the first member as long as nobody has it
@@ -26,10 +25,9 @@ pub record Membered : Type 0 where
   pub space : TagSpace
   pub member : Member
 
--- the Rendez of this space are this many from this one on
-pub record IsRowOfSpace (space : TagSpace) (first procs : ℕ) : Type 0 where
-  pub first_is : space.first.0 ≡ first
-  pub procs_are : space.procs ≡ procs
+-- this is the Rendez behind the last one of the space
+abbrev pub SpaceEndsBefore : TagSpace → ℕ → Type 0
+SpaceEndsBefore space beyond = space.first.0 + space.procs ≡ beyond
 
 -- nobody has the member, or it is one of the space's between two calls
 abbrev pub IsSpareMember : TagSpace → Option Member → Type 0
@@ -75,19 +73,14 @@ abbrev pub AreMembers : Hosting → ℕ → List Membered → Type 0
 AreMembers hosting = AreChained GivesAnother (IsFirstOf hosting)
 
 -- one or more are asked for, and no more than the space has
-pub record MayGive (hosting : Hosting) (count : ℕ) : Type 0 where
-  pub one : 0 < count
-  pub members : count ≤ hosting.space.procs
+abbrev pub MayGive : Hosting → ℕ → Type 0
+MayGive hosting = MayHave hosting.space.procs
 
--- why there are no members, in this order: too many were asked for, there is no memory, or somebody
--- had the first one; or all were given by other members, as far as the last of them could know
+-- why there are no members
 abbrev pub WhyNoMembers : Hosting → ℕ → Fault → Type 0
-WhyNoMembers hosting count fault.NoProc =
-    (¬ MayGive hosting count)
-    ⊎ (MayGive hosting count
-    × ((hosting.spare ≡ None) ⊎ RunsOut GivesAnother (IsFirstOf hosting) KnowsNoMember count))
-WhyNoMembers hosting count fault.Memory = MayGive hosting count
-WhyNoMembers hosting count other = ⊥
+WhyNoMembers hosting =
+    WhyNotMany GivesAnother (IsFirstOf hosting) KnowsNoMember (hosting.spare ≡ None)
+    hosting.space.procs
 
 -- ---- a call
 

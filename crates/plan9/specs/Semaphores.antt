@@ -1,8 +1,7 @@
 -- What clauses see of a semaphore, and of the seats at it.
-use Rattle.std.specs.Prelude.{◌≡◌, ◌⊎◌, ◌≤◌, ◌<◌, ⊤, ℕ, Bool, if◌then◌else◌, List}
+use Rattle.std.specs.Prelude.{◌≡◌, ◌+◌, ⊤, ℕ, Bool, if◌then◌else◌, List}
 use Rattle.std.specs.Prelude.{Option, Some, None, Result, Ok, Err}
 use Rattle.sync_base.specs.declared.fault.Fault.{Fault}
-use Rattle.sync_base.specs.declared.fault.Fault.TheVariants as fault
 use Rattle.kernel_lock.specs.Seats.{number_of, Splits, KnowsAllGiven}
 use Rattle.sleep_wakeup.specs.Kernel.{Running, Unused}
 use Rattle.semaphore.specs.declared.acquiring.Semacquired.{Semacquired}
@@ -12,7 +11,7 @@ use Rattle.semaphore.specs.declared.sema.SemaSeat.{SemaSeat}
 use Rattle.semaphore.specs.Seats.{IsNewSema, IsSemaSeatOf}
 use Rattle.timer_list.specs.Timing.{TimedPoint}
 use Rattle.waiting.specs.Runners.{run_point}
-use Rattle.plan9.specs.Chains.{AreChained, RunsOut}
+use Rattle.plan9.specs.Chains.{AreChained, MayHave, WhyNotMany}
 use Rattle.plan9.specs.Watches.{Watching}
 
 -- a semaphore, and the first seat as long as nobody has it
@@ -25,10 +24,9 @@ pub record Seated : Type 0 where
   pub sema : Sema
   pub seat : SemaSeat
 
--- the Rendez of this semaphore are this many from this one on
-pub record IsRowOf (sema : Sema) (first procs : ℕ) : Type 0 where
-  pub first_is : sema.first ≡ first
-  pub procs_are : sema.procs ≡ procs
+-- this is the Rendez behind the last one of the semaphore
+abbrev pub EndsBefore : Sema → ℕ → Type 0
+EndsBefore sema beyond = sema.first + sema.procs ≡ beyond
 
 -- nobody has the seat, or it is one of the semaphore's that does not wait
 abbrev pub IsSpareOf : Sema → Option SemaSeat → Type 0
@@ -74,19 +72,13 @@ abbrev pub AreSeats : Seating → ℕ → List Seated → Type 0
 AreSeats seating = AreChained GivesSeat (IsFirst seating)
 
 -- one or more are asked for, and no more than the semaphore has
-pub record MaySeat (seating : Seating) (count : ℕ) : Type 0 where
-  pub one : 0 < count
-  pub seats : count ≤ seating.sema.procs
+abbrev pub MaySeat : Seating → ℕ → Type 0
+MaySeat seating = MayHave seating.sema.procs
 
--- why there are no seats, in this order: too many were asked for, there is no memory, or somebody
--- had the first one; or all were given by other seats, as far as the last of them could know
+-- why there are no seats
 abbrev pub WhyNoSeats : Seating → ℕ → Fault → Type 0
-WhyNoSeats seating count fault.NoProc =
-    (¬ MaySeat seating count)
-    ⊎ (MaySeat seating count
-    × ((seating.spare ≡ None) ⊎ RunsOut GivesSeat (IsFirst seating) KnowsNoSeat count))
-WhyNoSeats seating count fault.Memory = MaySeat seating count
-WhyNoSeats seating count other = ⊥
+WhyNoSeats seating =
+    WhyNotMany GivesSeat (IsFirst seating) KnowsNoSeat (seating.spare ≡ None) seating.sema.procs
 
 -- ---- a call
 

@@ -2,7 +2,7 @@
 -- Own: the turn is the unit of a semaphore, where Plan 9's pipes have a lock (qlock in lock(2)), so
 -- that a note ends the wait for it.
 use Rattle.std.specs.Prelude.{◌≡◌, ◌≢◌, ◌↔◌, ◌⊎◌, ⊤, ℕ, Bool, true, false, List, []}
-use Rattle.std.specs.Prelude.{Result, Ok, Err, IsErrOf, IfErr}
+use Rattle.std.specs.Prelude.{None, Result, Ok, Err, IsErrOf, IfErr}
 use Rattle.sync_base.specs.declared.fault.Fault.{Fault}
 use Rattle.sync_base.specs.declared.fault.Fault.TheVariants.{BadCount, NoRendez}
 use Rattle.sleep_core.specs.Limits.{IsProcCount}
@@ -27,7 +27,9 @@ use Rattle.plan9.specs.declared.place.Receipt.{Receipt}
 use Rattle.plan9.specs.Callers.{Reader, reader}
 use Rattle.plan9.specs.Places.{IsLaid}
 use Rattle.plan9.specs.Readings.{ReadsBy}
-use Rattle.plan9.specs.Semaphores.{Seated, IsFirst, IsFurther, IsNew, IsSameSeat, got, got_now}
+use Rattle.plan9.specs.Chains.{AreChained, MayHave, WhyNotMany}
+use Rattle.plan9.specs.Semaphores.{Seated, IsFirst, IsFurther, IsNew, IsSameSeat, KnowsNoSeat}
+use Rattle.plan9.specs.Semaphores.{got, got_now}
 
 -- the end that is shared, as it was at first
 abbrev pub first_end : SharedEnd → ReadSide
@@ -69,6 +71,31 @@ pub record IsSameShare (old new : Share) : Type 0 where
 pub record IsFurtherShare (old new child : Share) : Type 0 where
   pub further : IsFurther old.seat new.seat child.seat
   pub end_is : end_of child ≡ end_of old
+
+-- all shares were given, as far as the share can know
+abbrev pub KnowsNoShare : Share → Share → Type 0
+KnowsNoShare old new = KnowsNoSeat old.seat new.seat
+
+-- ---- many at once
+
+-- a share gives another
+pub record GivesShare (old new child : Share) : Type 0 where
+  pub same : IsSameShare old new
+  pub further : IsFurtherShare old new child
+
+-- so many shares: the first one, and each other given by the one before it
+abbrev pub AreShares : SharedEnd → ℕ → List Share → Type 0
+AreShares shared = AreChained GivesShare (IsFirstShare shared)
+
+-- one or more are asked for, and no more than the end has
+abbrev pub MayShare : SharedEnd → ℕ → Type 0
+MayShare shared = MayHave shared.turns.sema.procs
+
+-- why there are no shares
+abbrev pub WhyNoShares : SharedEnd → ℕ → Fault → Type 0
+WhyNoShares shared =
+    WhyNotMany GivesShare (IsFirstShare shared) KnowsNoShare (shared.turns.spare ≡ None)
+    shared.turns.sema.procs
 
 -- ---- a turn
 

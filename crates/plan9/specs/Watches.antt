@@ -1,7 +1,6 @@
 -- What clauses see of a clock, and of a seat at its timers.
-use Rattle.std.specs.Prelude.{◌≡◌, ◌⊎◌, ◌≤◌, ◌<◌, ⊤, ℕ, List, Option, Some, None}
+use Rattle.std.specs.Prelude.{◌≡◌, ⊤, ℕ, List, Option, Some, None}
 use Rattle.sync_base.specs.declared.fault.Fault.{Fault}
-use Rattle.sync_base.specs.declared.fault.Fault.TheVariants as fault
 use Rattle.kernel_lock.specs.Seats.{number_of, Splits, KnowsAllGiven}
 use Rattle.sleep_wakeup.specs.Kernel.{Running}
 use Rattle.timer_list.specs.declared.timers.Timers.{Timers}
@@ -9,7 +8,7 @@ use Rattle.timer_list.specs.declared.timers.TimerSeat.{TimerSeat}
 use Rattle.timer_list.specs.Seats.{AreNewTimers, IsTimerSeatOf}
 use Rattle.timer_list.specs.Timing.{TimedPoint, timed_throughout}
 use Rattle.waiting.specs.Runners.{Runs, run_point}
-use Rattle.plan9.specs.Chains.{AreChained, RunsOut}
+use Rattle.plan9.specs.Chains.{AreChained, MayHave, WhyNotMany}
 
 -- a clock: its timers, and the first seat as long as nobody has it
 pub record Clocked : Type 0 where
@@ -67,19 +66,14 @@ abbrev pub AreWatches : Clocked → ℕ → List Watching → Type 0
 AreWatches clock = AreChained GivesWatch (IsFirstWatch clock)
 
 -- one or more are asked for, and no more than the clock has
-pub record MayWatch (clock : Clocked) (count : ℕ) : Type 0 where
-  pub one : 0 < count
-  pub watches : count ≤ clock.timers.procs
+abbrev pub MayWatch : Clocked → ℕ → Type 0
+MayWatch clock = MayHave clock.timers.procs
 
--- why there are no watches, in this order: too many were asked for, there is no memory, or somebody
--- had the first one; or all were given by other watches, as far as the last of them could know
+-- why there are no watches
 abbrev pub WhyNoWatches : Clocked → ℕ → Fault → Type 0
-WhyNoWatches clock count fault.NoProc =
-    (¬ MayWatch clock count)
-    ⊎ (MayWatch clock count
-    × ((clock.spare ≡ None) ⊎ RunsOut GivesWatch (IsFirstWatch clock) KnowsNoWatch count))
-WhyNoWatches clock count fault.Memory = MayWatch clock count
-WhyNoWatches clock count other = ⊥
+WhyNoWatches clock =
+    WhyNotMany GivesWatch (IsFirstWatch clock) KnowsNoWatch (clock.spare ≡ None)
+    clock.timers.procs
 
 -- ---- the state of a call with a watch
 

@@ -6,12 +6,14 @@ use Rattle.sync_base.specs.declared.limits.TheConstants.{ATOMIC_SIZE}
 use Rattle.histories.specs.declared.account.Account.{Account}
 use Rattle.block_queue.specs.declared.entry.Entry.{Entry}
 use Rattle.block_queue.specs.Seats.{key_of}
+use Rattle.pipe_dev.specs.declared.answers.Long.{Long}
 use Rattle.pipe_dev.specs.declared.answers.ReadAnswer.{ReadAnswer}
+use Rattle.pipe_dev.specs.BlockReads.{ReadsBlockBy, RunsABlockRead}
 use Rattle.pipe_dev.specs.Filling.{Lending}
 use Rattle.pipe_dev.specs.ReadCalls.{Calling, ReadsBy, RunsARead, calling, run_call}
 use Rattle.pipe_dev.specs.Rendezes.{OwnsRow}
-use Rattle.pipe_dev.specs.WriteCalls.{IsRefusedAs, RunsAWrite, WritesBy, call_of, run_writer}
-use Rattle.pipe_dev.specs.WriteCalls.{writer_of}
+use Rattle.pipe_dev.specs.WriteCalls.{IsLongRefusedAs, IsRefusedAs, RunsAWrite, WritesBy}
+use Rattle.pipe_dev.specs.WriteCalls.{WritesLongBy, call_of, run_writer, writer_of}
 use Rattle.timer_list.specs.Timing.{TimedPoint}
 use Rattle.plan9.specs.Callers.{Reader, Writer}
 use Rattle.plan9.specs.Watches.{Watching, until}
@@ -81,3 +83,27 @@ pub record WritesWithin (moment : ℕ) (old : WatchedWrite) (bytes : List ℕ)
   pub is_write : length bytes ≤ ATOMIC_SIZE → MayWrite old
       → RunsAWrite (call_of old.writer.end bytes) (writer_of old.writer.end old.writer.proc)
       answer (writer_of new.writer.end new.writer.proc)
+
+-- A read of a block until a moment; the buffer is the caller's block. A process of a kernel that
+-- has too few Rendez for the direction is refused first. Else it read, slept and woke so, and asked
+-- its timers so; and what holds of such a read without a deadline holds of it.
+pub record ReadsBlockWithin (moment : ℕ) (old : WatchedRead) (answer : Result ReadAnswer Fault)
+    (new : WatchedRead) : Type 0 where
+  pub no_rendez : ¬ MayRead old → IsRefusedAs NoRendez (read_point old) answer (read_point new)
+  pub read : MayRead old
+      → ReadsBlockBy (until old.watch moment) (key_of old.reader.end.queue) old.reader.end.row
+      (read_point old) answer (read_point new)
+  pub is_read : MayRead old
+      → RunsABlockRead (key_of old.reader.end.queue) old.reader.end.row (read_call old) answer
+      (read_call new)
+
+-- A long write until a moment, which is that of each of its writes. A process of a kernel that has
+-- too few Rendez for the direction is refused first. Else each write was made so, up to the first
+-- that was not accepted.
+pub record WritesLongWithin (moment : ℕ) (old : WatchedWrite) (bytes : List ℕ) (long : Long)
+    (new : WatchedWrite) : Type 0 where
+  pub no_rendez : ¬ MayWrite old
+      → IsLongRefusedAs NoRendez (write_point old) long (write_point new)
+  pub wrote : MayWrite old
+      → WritesLongBy (until old.watch moment) (call_of old.writer.end bytes) (write_point old) long
+      (write_point new)

@@ -1,8 +1,8 @@
 //! A clock to which a process says the time, and seats at its timers: each has the timers with it.
+use crate::many::{Splits, room_for, split_into};
 use sleep_wakeup::Proc;
 use std::alloc::Global;
 use std::marker::Model;
-use std::mem;
 use std::sync::Wait;
 use sync_base::{Fault, RendezId};
 use timer_list::{OpenedTimers, TimerSeat, Timers};
@@ -46,8 +46,7 @@ impl<'t> Model for Watch<'t> {
 }
 
 impl Clock {
-    ghost use Rattle.std.specs.Prelude.{◌≡◌, ◌≤◌, ◌↔◌, true, [], None, IfOk, IfErr, OnOk, OnErr};
-    ghost use Rattle.std.specs.Vec.{vec_capacity};
+    ghost use Rattle.std.specs.Prelude.{◌≡◌, ◌≤◌, ◌↔◌, true, None, IfOk, IfErr, OnOk, OnErr};
     ghost use Rattle.sync_base.specs.declared.fault.Fault.TheVariants.{NoProc};
     ghost use Rattle.sleep_core.specs.Limits.{IsProcCount};
     ghost use Rattle.timer_list.specs.Timers.{WhyNoTimers};
@@ -75,6 +74,13 @@ impl Clock {
             spare: Some(seat),
             procs,
         })
+    }
+
+    // How many processes may have a watch of it.
+    fn procs(&self) -> u64
+        ensures { result ≡ self.now.timers.procs }
+    {
+        self.procs
     }
 
     /// Whether nobody has had the first watch. Takes no memory and doesn't wait.
@@ -120,30 +126,21 @@ impl Clock {
         // Otherwise no other watch was given.
         ensures watches { IfOk result (λ watches. AreWatches self.old count watches.items) }
     {
-        let mut watches = self.room_for(alloc, count)?;
-        let mut last = self.watch()?;
-        'splitting: for _ in 1..count {
-            let next = last.split(rt)?;
-            watches.push_reserved(mem::replace(&mut last, next));
-        }
-        watches.push_reserved(last);
-        Ok(watches)
+        let watches = room_for(alloc, self.procs(), count)?;
+        let first = self.watch()?;
+        split_into(rt, first, watches, count)
     }
+}
 
-    // Room for so many watches. Who is refused here has not taken the first watch.
-    fn room_for<'t>(&self, alloc: Global, count: u64) -> Result<Vec<Watch<'t>>, Fault>
-        ensures may { OnOk result (MayWatch self.now count) }
-        ensures fault { IfErr result (WhyNoWatches self.now count) }
-        ensures none { IfOk result (λ watches. watches.items ≡ []) }
-        ensures room { IfOk result (λ watches. count ≤ vec_capacity watches) }
-    {
-        if count == 0 || self.procs < count {
-            return Err(Fault::NoProc);
-        }
-        let Ok(watches) = Vec::with_capacity(alloc, count as usize) else {
-            return Err(Fault::Memory);
-        };
-        Ok(watches)
+impl<'t> Splits for Watch<'t> {
+    ghost use Rattle.plan9.specs.Watches.{GivesWatch, KnowsNoWatch};
+
+    ghost gives = { GivesWatch };
+
+    ghost knows_none = { KnowsNoWatch };
+
+    fn further<R: Wait>(&mut self, rt: &R) -> Result<Watch<'t>, Fault> {
+        self.split(rt)
     }
 }
 

@@ -1,11 +1,11 @@
 //! More calls of the ends of a pipe: piece by piece, until a buffer is full, and until a moment.
 use crate::clock::Watch;
-use crate::noting::write_unnoted;
-use pipe_dev::{ReadAnswer, ReadEnd, WriteEnd};
+use crate::noting::take_note;
+use pipe_dev::{Long, ReadAnswer, ReadEnd, WriteEnd};
 use sleep_wakeup::Proc;
 use std::alloc::Global;
 use std::sync::Wait;
-use sync_base::Fault;
+use sync_base::{Fault, Note};
 use timer_list::Deadline;
 
 /// How far a `read_exact` came that did not fill its buffer: how many bytes were read into it,
@@ -58,6 +58,24 @@ pub trait ReadCalls {
         ms: u32,
         buffer: &mut [u8],
     ) -> Result<ReadAnswer, Fault>;
+
+    /// A `read_block` that waits until a tick of the clock at the moment `now` + `ms` or later;
+    /// that moment is at most `u64::MAX`. Own; bread of the kernel's devices waits as long as it
+    /// takes.
+    ///
+    /// Refuses, in this order, as `NoRendez` and `DoubleSleep` as `read_block` does, as
+    /// `Interrupted` with the notes that ended the wait, and as `TimedOut` where a tick ended it
+    /// and no other note came; a refused read got nothing, and the block is as it was. What becomes
+    /// of other notes, and of the note of a tick, is as with `read_within`. Takes no memory.
+    fn read_block_within<R: Wait>(
+        &mut self,
+        rt: &R,
+        proc: &mut Proc<'_>,
+        watch: &mut Watch<'_>,
+        now: u64,
+        ms: u32,
+        block: &mut Vec<u8>,
+    ) -> Result<ReadAnswer, Fault>;
 }
 
 /// What a write end is called for, beside its own calls.
@@ -97,6 +115,24 @@ pub trait WriteCalls {
         ms: u32,
         bytes: &[u8],
     ) -> Result<u64, Fault>;
+
+    /// A `write_long` all of whose writes wait until a tick of the clock at the moment `now` + `ms`
+    /// or later; that moment is at most `u64::MAX`. Memory is taken for the bytes. Own; write(2)
+    /// waits as long as it takes.
+    ///
+    /// Refuses, in this order, as `NoRendez` as `write_long` does, before any byte is taken, and
+    /// then as the first of its writes that is refused, for which see `write_within`; no write
+    /// follows that one, which took nothing. `taken` is how many bytes the writes before it took.
+    fn write_long_within<R: Wait>(
+        &mut self,
+        alloc: Global,
+        rt: &R,
+        proc: &mut Proc<'_>,
+        watch: &mut Watch<'_>,
+        now: u64,
+        ms: u32,
+        bytes: &[u8],
+    ) -> Long;
 }
 
 impl<'p> ReadCalls for ReadEnd<'p> {
@@ -105,10 +141,11 @@ impl<'p> ReadCalls for ReadEnd<'p> {
     ghost use Rattle.plan9.specs.Callers.{reader};
     ghost use Rattle.plan9.specs.Readings.{FillsUp, ReadsPiece};
     ghost use Rattle.timer_list.specs.Timers.{deadline_of};
-    ghost use Rattle.plan9.specs.Within.{ReadsWithin, watched_read};
+    ghost use Rattle.plan9.specs.Within.{ReadsBlockWithin, ReadsWithin, watched_read};
     ghost use Rattle.plan9.specs.Watches.{IsSameWatch};
 
     #[tactic(auto, using(crate::proofs::ReadingLemmas::piece_lies))]
+    #[inline(always)]
     fn next_piece<R: Wait>(
         &mut self,
         rt: &R,
@@ -176,6 +213,30 @@ impl<'p> ReadCalls for ReadEnd<'p> {
         };
         self.read_by(rt, proc, buffer, &until, &mut watch.seat)
     }
+
+    fn read_block_within<R: Wait>(
+        &mut self,
+        rt: &R,
+        proc: &mut Proc<'_>,
+        watch: &mut Watch<'_>,
+        now: u64,
+        ms: u32,
+        block: &mut Vec<u8>,
+    ) -> Result<ReadAnswer, Fault>
+        ensures read { ReadsBlockWithin (deadline_of now ms)
+            (watched_read (reader self.old proc.old) block.old.items watch.old) result
+            (watched_read (reader self.new proc.new) block.new.items watch.new) }
+        ensures end { IsSameReadEnd self.old self.new }
+        ensures words { proc.new.words ≡ proc.old.words }
+        ensures watch { IsSameWatch watch.old watch.new }
+    {
+        let until = Deadline {
+            timers: watch.timers,
+            from: now,
+            ms,
+        };
+        self.read_block_by(rt, proc, block, &until, &mut watch.seat)
+    }
 }
 
 impl<'p> WriteCalls for WriteEnd<'p> {
@@ -184,9 +245,10 @@ impl<'p> WriteCalls for WriteEnd<'p> {
     ghost use Rattle.plan9.specs.Callers.{writer};
     ghost use Rattle.plan9.specs.Notings.{WritesUnnoted};
     ghost use Rattle.timer_list.specs.Timers.{deadline_of};
-    ghost use Rattle.plan9.specs.Within.{WritesWithin, watched_write};
+    ghost use Rattle.plan9.specs.Within.{WritesLongWithin, WritesWithin, watched_write};
     ghost use Rattle.plan9.specs.Watches.{IsSameWatch};
 
+    #[inline(always)]
     fn write_unnoted<R: Wait>(
         &mut self,
         alloc: Global,
@@ -197,7 +259,13 @@ impl<'p> WriteCalls for WriteEnd<'p> {
         ensures { WritesUnnoted (writer self.old proc.old) bytes.now result
             (writer self.new proc.new) }
     {
-        write_unnoted(alloc, rt, self, proc, bytes)
+        match self.write(alloc, rt, proc, bytes) {
+            Err(Fault::Hungup) => {
+                take_note(proc, Note::ClosedPipe);
+                Err(Fault::Hungup)
+            }
+            answer => answer,
+        }
     }
 
     fn write_within<R: Wait>(
@@ -223,5 +291,30 @@ impl<'p> WriteCalls for WriteEnd<'p> {
             ms,
         };
         self.write_by(alloc, rt, proc, bytes, &until, &mut watch.seat)
+    }
+
+    fn write_long_within<R: Wait>(
+        &mut self,
+        alloc: Global,
+        rt: &R,
+        proc: &mut Proc<'_>,
+        watch: &mut Watch<'_>,
+        now: u64,
+        ms: u32,
+        bytes: &[u8],
+    ) -> Long
+        ensures wrote { WritesLongWithin (deadline_of now ms)
+            (watched_write (writer self.old proc.old) watch.old) bytes.now result
+            (watched_write (writer self.new proc.new) watch.new) }
+        ensures end { IsSameWriteEnd self.old self.new }
+        ensures words { proc.new.words ≡ proc.old.words }
+        ensures watch { IsSameWatch watch.old watch.new }
+    {
+        let until = Deadline {
+            timers: watch.timers,
+            from: now,
+            ms,
+        };
+        self.write_long_by(alloc, rt, proc, bytes, &until, &mut watch.seat)
     }
 }

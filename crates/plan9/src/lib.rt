@@ -1,11 +1,12 @@
 //! All that a program names: the library's types and calls in one order. A thread is one process,
-//! and lends it to each call: to the end of a pipe, to a seat at a semaphore, to a member of a tag
-//! space, to a share of a read end, or to a watch of a clock. Read the lists below from the top:
-//! what every call speaks of; a kernel and its processes, with `plan` and `forking`; faults in
-//! words, with `texts`; pipes, with `pipes`, `ends`, `noting`, `shares`, `place`, `alone` and
-//! `streams`; semaphores, with `semaphores`; clocks, with `clock` and `ticker`; tag spaces, with
-//! `spaces` and `rforking`; `known`, by which these test who calls; and what else a caller may
-//! prove.
+//! and lends it to each call: to the end of a pipe, to a sender or a receiver of a queue, to a seat
+//! at a semaphore, to a member of a tag space, to a share of a read end, or to a watch of a clock.
+//! Read the lists below from the top: what every call speaks of; a kernel and its processes, with
+//! `plan` and `forking`; faults in words, with `texts`; pipes, with `pipes`, `ends`, `noting`,
+//! `shares`, `place`, `alone` and `streams`; queues of values, with `queues`; semaphores, with
+//! `semaphores`; clocks, with `clock` and `ticker`; tag spaces, with `spaces` and `rforking`;
+//! `known`, by which these test who calls; `many`, by which each of them gives many at once; and
+//! what else a caller may prove.
 #![tactic(auto)]
 
 mod alone;
@@ -13,10 +14,12 @@ pub mod clock;
 pub mod ends;
 pub mod forking;
 mod known;
+mod many;
 pub mod noting;
 pub mod pipes;
 mod place;
 pub mod plan;
+pub mod queues;
 pub mod rforking;
 pub mod semaphores;
 pub mod shares;
@@ -33,6 +36,9 @@ pub use crate::forking::{fork, forks};
 pub use crate::plan::Plan;
 pub use sleep_wakeup::{Done, Kernel, Opened as OpenedKernel, Proc, Roster, Start, Started};
 
+// Jobs that start together or not at all, each on a thread with its process.
+pub use together::{Ended, Job, Refused, Team, Told, Worker};
+
 // Who waits where, for a program that hangs.
 pub use sleep_wakeup::{Look, ProcStatus, RendezStatus};
 
@@ -48,6 +54,12 @@ pub use crate::streams::{ReadStream, WriteStream};
 pub use pipe_dev::{
     End, Ends, Held, Long, Opened as OpenedPipe, Parts, Pipe, PipeStart, ReadAnswer, ReadEnd,
     StoredBlock, TryAnswer, Unfinished, WriteEnd, finish,
+};
+
+// Queues of values, and handles by which processes send and receive.
+pub use crate::queues::{ReceiveCalls, SendCalls};
+pub use messages::{
+    Ends as QueueEnds, Messages, Received, Receiver, Sender, TryReceived, TrySent, Unsent,
 };
 
 // Semaphores, and seats at them.

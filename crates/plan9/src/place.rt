@@ -6,6 +6,8 @@ ghost use Rattle.pipe_dev.specs.Ends.{IsSameReadEnd};
 ghost use Rattle.plan9.specs.Places.{IsLaid, Swaps, end_in};
 
 use crate::alone::Alone;
+use crate::clock::Watch;
+use crate::ends::ReadCalls;
 use counted_slot::{Claim, Counted, FREE, Fits, TAKEN};
 use pipe_dev::{ReadAnswer, ReadEnd, TryAnswer};
 use sleep_wakeup::Proc;
@@ -147,6 +149,7 @@ pub(crate) struct Called<'p, A> {
 
 // Each of these makes one call of the end that it has taken up, and lays it down.
 impl<'p> Place<'p> {
+    ghost use Rattle.timer_list.specs.Timers.{deadline_of};
     ghost use Rattle.plan9.specs.Sharings.{
       CallsAndLays,
       ReadsBlockOnce,
@@ -154,6 +157,8 @@ impl<'p> Place<'p> {
       TriesOnce,
       buffers,
     };
+    ghost use Rattle.plan9.specs.TimedSharings.{ReadsBlockOnceWithin, ReadsOnceWithin, watches};
+    ghost use Rattle.plan9.specs.Watches.{IsSameWatch};
 
     pub(crate) fn read<R: Wait>(
         &self,
@@ -182,6 +187,46 @@ impl<'p> Place<'p> {
     {
         let mut taken = take_up(rt, self);
         let answer = taken.end.read_block(rt, proc, block);
+        let laid = lay_down(rt, self, taken);
+        Called { answer, laid }
+    }
+
+    pub(crate) fn read_within<R: Wait>(
+        &self,
+        rt: &R,
+        proc: &mut Proc<'_>,
+        watch: &mut Watch<'_>,
+        now: u64,
+        ms: u32,
+        buffer: &mut [u8],
+    ) -> Called<'p, Result<ReadAnswer, Fault>>
+        ensures called { CallsAndLays self.now.slot.value proc.old
+            (ReadsOnceWithin (deadline_of now ms) (watches watch.old watch.new)
+            (buffers buffer.old buffer.new) result.answer) result.laid proc.new }
+        ensures watch { IsSameWatch watch.old watch.new }
+    {
+        let mut taken = take_up(rt, self);
+        let answer = taken.end.read_within(rt, proc, watch, now, ms, buffer);
+        let laid = lay_down(rt, self, taken);
+        Called { answer, laid }
+    }
+
+    pub(crate) fn read_block_within<R: Wait>(
+        &self,
+        rt: &R,
+        proc: &mut Proc<'_>,
+        watch: &mut Watch<'_>,
+        now: u64,
+        ms: u32,
+        block: &mut Vec<u8>,
+    ) -> Called<'p, Result<ReadAnswer, Fault>>
+        ensures called { CallsAndLays self.now.slot.value proc.old
+            (ReadsBlockOnceWithin (deadline_of now ms) (watches watch.old watch.new)
+            (buffers block.old.items block.new.items) result.answer) result.laid proc.new }
+        ensures watch { IsSameWatch watch.old watch.new }
+    {
+        let mut taken = take_up(rt, self);
+        let answer = taken.end.read_block_within(rt, proc, watch, now, ms, block);
         let laid = lay_down(rt, self, taken);
         Called { answer, laid }
     }

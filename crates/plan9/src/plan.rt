@@ -100,6 +100,26 @@ impl Plan {
         }
     }
 
+    /// A queue of values for this many senders and receivers together, each a process. Takes no
+    /// memory and doesn't wait.
+    pub fn queue(self, handles: u64) -> Plan
+        ensures { Seats handles self result }
+    {
+        self.processes(handles).rendez(handles)
+    }
+
+    /// A team of at most this many jobs, each a process beside that of its caller. Takes no memory
+    /// and doesn't wait.
+    pub fn team(self, jobs: u64) -> Plan
+        ensures { Seats (1 + jobs) self result }
+    {
+        if jobs > MAX_RENDEZ {
+            self.processes(MAX_PROCS + 1).rendez(MAX_RENDEZ + 1)
+        } else {
+            self.processes(1 + jobs).rendez(1 + jobs)
+        }
+    }
+
     /// A tag space of this many members, each a process. Takes no memory and doesn't
     /// wait.
     pub fn space(self, members: u64) -> Plan

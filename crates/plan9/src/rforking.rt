@@ -92,13 +92,13 @@ impl<'s> Member<'s> {
     {
         let Member {
             space,
-            first,
             procs,
+            beyond,
             member,
         } = self;
         let forked = match rfork(alloc, rt, roster, proc, space, member, flags) {
             Err(NotForked { member, fault }) => {
-                let member = member_of(space, first, procs, member);
+                let member = member_of(space, procs, beyond, member);
                 return Err(UnforkedMember { member, fault });
             }
             Ok(forked) => forked,
@@ -111,12 +111,12 @@ impl<'s> Member<'s> {
         } = forked;
         match (new, child, spent) {
             (None, None, _) => {
-                let member = member_of(space, first, procs, member);
+                let member = member_of(space, procs, beyond, member);
                 Ok(ForkedMember::Alone { member })
             }
             (None, Some((child, childs)), _) => {
-                let member = member_of(space, first, procs, member);
-                let childs = member_of(space, first, procs, childs);
+                let member = member_of(space, procs, beyond, member);
+                let childs = member_of(space, procs, beyond, childs);
                 Ok(ForkedMember::Child {
                     member,
                     child,
@@ -128,7 +128,7 @@ impl<'s> Member<'s> {
                 Ok(ForkedMember::Apart { space, spent })
             }
             (Some(new), Some((child, childs)), _) => {
-                let member = member_of(space, first, procs, member);
+                let member = member_of(space, procs, beyond, member);
                 let space = space_of(new, childs, procs);
                 Ok(ForkedMember::ChildApart {
                     member,

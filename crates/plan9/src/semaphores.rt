@@ -3,11 +3,11 @@ ghost use Rattle.std.specs.Prelude.{◌≡◌};
 
 use crate::clock::Watch;
 use crate::known::has_row;
+use crate::many::{Splits, room_for, split_into};
 use semaphore::{OpenedSema, Sema, SemaSeat, Semacquired};
 use sleep_wakeup::{Proc, Roster};
 use std::alloc::Global;
 use std::marker::Model;
-use std::mem;
 use std::sync::Wait;
 use sync_base::{Fault, NoProbe, Probe, RendezId};
 
@@ -16,19 +16,22 @@ use sync_base::{Fault, NoProbe, Probe, RendezId};
 pub struct Semaphore {
     sema: Sema,
     spare: Option<SemaSeat>,
-    first: u64,
     procs: u64,
+    /// The Rendez behind its last one.
+    beyond: u64,
 }
 
 impl Model for Semaphore {
-    ghost use Rattle.plan9.specs.Semaphores.{IsRowOf, IsSpareOf, Seating};
+    ghost use Rattle.std.specs.Prelude.{◌≡◌};
+    ghost use Rattle.plan9.specs.Semaphores.{EndsBefore, IsSpareOf, Seating};
 
     ghost Value = { Seating };
 
     ghost view = { λ semaphore. record { sema = semaphore.sema; spare = semaphore.spare } };
 
     ghost invariant = { λ semaphore. record {
-      row : IsRowOf semaphore.sema semaphore.first semaphore.procs;
+      procs_are : semaphore.sema.procs ≡ semaphore.procs;
+      row : EndsBefore semaphore.sema semaphore.beyond;
       spare : IsSpareOf semaphore.sema semaphore.spare;
     } };
 }
@@ -38,28 +41,26 @@ impl Model for Semaphore {
 #[derive(Drop)]
 pub struct Seat<'s> {
     sema: &'s Sema,
-    first: u64,
-    procs: u64,
+    beyond: u64,
     seat: SemaSeat,
 }
 
 impl<'s> Model for Seat<'s> {
     ghost use Rattle.semaphore.specs.Seats.{IsSemaSeatOf};
-    ghost use Rattle.plan9.specs.Semaphores.{IsRowOf, Seated};
+    ghost use Rattle.plan9.specs.Semaphores.{EndsBefore, Seated};
 
     ghost Value = { Seated };
 
     ghost view = { λ it. record { sema = it.sema.now; seat = it.seat } };
 
     ghost invariant = { λ it. record {
-      row : IsRowOf it.sema.now it.first it.procs;
+      row : EndsBefore it.sema.now it.beyond;
       seat_is : IsSemaSeatOf it.sema.now it.seat;
     } };
 }
 
 impl Semaphore {
-    ghost use Rattle.std.specs.Prelude.{◌≡◌, ◌≤◌, ◌↔◌, true, [], None, IfOk, IfErr, OnOk, OnErr};
-    ghost use Rattle.std.specs.Vec.{vec_capacity};
+    ghost use Rattle.std.specs.Prelude.{◌≡◌, ◌≤◌, ◌↔◌, true, None, IfOk, IfErr, OnOk, OnErr};
     ghost use Rattle.sync_base.specs.declared.fault.Fault.TheVariants.{NoProc};
     ghost use Rattle.sleep_core.specs.Limits.{IsProcCount};
     ghost use Rattle.sleep_wakeup.specs.Kernel.{HasRendez, rendez_less};
@@ -91,9 +92,16 @@ impl Semaphore {
         Ok(Semaphore {
             sema,
             spare: Some(seat),
-            first,
             procs,
+            beyond: first + procs,
         })
+    }
+
+    /// How many processes may call it.
+    pub(crate) fn procs(&self) -> u64
+        ensures { result ≡ self.now.sema.procs }
+    {
+        self.procs
     }
 
     /// Whether nobody has had the first seat. Takes no memory and doesn't wait.
@@ -117,8 +125,7 @@ impl Semaphore {
             None => Err(Fault::NoProc),
             Some(seat) => Ok(Seat {
                 sema: &self.sema,
-                first: self.first,
-                procs: self.procs,
+                beyond: self.beyond,
                 seat,
             }),
         }
@@ -141,30 +148,21 @@ impl Semaphore {
         // Otherwise no other seat was given.
         ensures seats { IfOk result (λ seats. AreSeats self.old count seats.items) }
     {
-        let mut seats = self.room_for(alloc, count)?;
-        let mut last = self.seat()?;
-        'splitting: for _ in 1..count {
-            let next = last.split(rt)?;
-            seats.push_reserved(mem::replace(&mut last, next));
-        }
-        seats.push_reserved(last);
-        Ok(seats)
+        let seats = room_for(alloc, self.procs(), count)?;
+        let first = self.seat()?;
+        split_into(rt, first, seats, count)
     }
+}
 
-    // Room for so many seats. Who is refused here has not taken the first seat.
-    fn room_for<'s>(&self, alloc: Global, count: u64) -> Result<Vec<Seat<'s>>, Fault>
-        ensures may { OnOk result (MaySeat self.now count) }
-        ensures fault { IfErr result (WhyNoSeats self.now count) }
-        ensures none { IfOk result (λ seats. seats.items ≡ []) }
-        ensures room { IfOk result (λ seats. count ≤ vec_capacity seats) }
-    {
-        if count == 0 || self.procs < count {
-            return Err(Fault::NoProc);
-        }
-        let Ok(seats) = Vec::with_capacity(alloc, count as usize) else {
-            return Err(Fault::Memory);
-        };
-        Ok(seats)
+impl<'s> Splits for Seat<'s> {
+    ghost use Rattle.plan9.specs.Semaphores.{GivesSeat, KnowsNoSeat};
+
+    ghost gives = { GivesSeat };
+
+    ghost knows_none = { KnowsNoSeat };
+
+    fn further<R: Wait>(&mut self, rt: &R) -> Result<Seat<'s>, Fault> {
+        self.split(rt)
     }
 }
 
@@ -199,8 +197,7 @@ impl<'s> Seat<'s> {
         let seat = self.sema.split(rt, &mut self.seat)?;
         Ok(Seat {
             sema: self.sema,
-            first: self.first,
-            procs: self.procs,
+            beyond: self.beyond,
             seat,
         })
     }
@@ -213,6 +210,8 @@ impl<'s> Seat<'s> {
     /// ended the wait, which are no longer pending; a refused call has got no unit. Where a unit
     /// was granted before the notes came, the process has that unit, and the notes are pending
     /// again. Takes no memory.
+    #[inline(always)]
+    #[tactic(auto, using(crate::proofs::SemaphoreLemmas::has_its_unit))]
     pub fn acquire<R: Wait>(&mut self, rt: &R, proc: &mut Proc<'_>) -> Result<(), Fault>
         ensures same { IsSameSeat self.old self.new }
         ensures words { proc.new.words ≡ proc.old.words }
@@ -223,11 +222,20 @@ impl<'s> Seat<'s> {
             (Semacquires true self.old.sema (point self.old.seat proc.old) (got result)
             (point self.new.seat proc.new)) }
     {
-        self.acquire_probed(rt, proc, &mut NoProbe)
+        if !has_row(proc, self.beyond) {
+            return Err(Fault::NoRendez);
+        }
+        let (sema, seat) = (self.sema, &mut self.seat);
+        match sema.semacquire_probed(rt, proc, seat, true, &mut NoProbe) {
+            Ok(_) => Ok(()),
+            Err(fault) => Err(fault),
+        }
     }
 
     /// An `acquire` that calls its probe at its points, as `Sema::semacquire_probed` does: 1 before
     /// the semaphore is asked first, 2 before and 3 after each sleep, 4 at the end.
+    #[inline(always)]
+    #[tactic(auto, using(crate::proofs::SemaphoreLemmas::has_its_unit))]
     pub fn acquire_probed<R: Wait, P: Probe>(
         &mut self,
         rt: &R,
@@ -243,21 +251,19 @@ impl<'s> Seat<'s> {
             (Semacquires true self.old.sema (point self.old.seat proc.old) (got result)
             (point self.new.seat proc.new)) }
     {
-        if !has_row(proc, self.first, self.procs) {
+        if !has_row(proc, self.beyond) {
             return Err(Fault::NoRendez);
         }
-        match self
-            .sema
-            .semacquire_probed(rt, proc, &mut self.seat, true, probe)
-        {
-            Ok(Semacquired::Acquired) => Ok(()),
-            Ok(Semacquired::NotNow) => unreachable!(),
+        let (sema, seat) = (self.sema, &mut self.seat);
+        match sema.semacquire_probed(rt, proc, seat, true, probe) {
+            Ok(_) => Ok(()),
             Err(fault) => Err(fault),
         }
     }
 
     /// Takes a unit if there is one now, and says whether it did. Refuses as `NoRendez`. It waits
     /// for the semaphore's lock. Takes no memory.
+    #[inline(always)]
     pub fn try_acquire<R: Wait>(&mut self, rt: &R, proc: &mut Proc<'_>) -> Result<bool, Fault>
         ensures same { IsSameSeat self.old self.new }
         ensures words { proc.new.words ≡ proc.old.words }
@@ -274,6 +280,7 @@ impl<'s> Seat<'s> {
 
     /// A `try_acquire` that calls its probe at its points: 1 before the semaphore is asked, 4 at
     /// the end.
+    #[inline(always)]
     pub fn try_acquire_probed<R: Wait, P: Probe>(
         &mut self,
         rt: &R,
@@ -290,7 +297,7 @@ impl<'s> Seat<'s> {
             (IfOk result (λ now. Semacquires false self.old.sema (point self.old.seat proc.old)
             (got_now now) (point self.new.seat proc.new))) }
     {
-        if !has_row(proc, self.first, self.procs) {
+        if !has_row(proc, self.beyond) {
             return Err(Fault::NoRendez);
         }
         match self
@@ -357,7 +364,7 @@ impl<'s> Seat<'s> {
             (seat_point self.old watch.old proc.old) result
             (seat_point self.new watch.new proc.new)) }
     {
-        if !has_row(proc, self.first, self.procs) {
+        if !has_row(proc, self.beyond) {
             return Err(Fault::NoRendez);
         }
         let (timers, timer) = (watch.timers, &mut watch.seat);
@@ -373,6 +380,7 @@ impl<'s> Seat<'s> {
     /// semaphore, so that a process of another kernel can't give a unit back, and as `BadArg` where
     /// the value would be above 2,147,483,647; then it adds nothing. It waits for the semaphore's
     /// lock. Takes no memory.
+    #[inline(always)]
     pub fn release<R: Wait>(
         &mut self,
         rt: &R,
@@ -388,7 +396,7 @@ impl<'s> Seat<'s> {
             (Releases self.old.sema count (point self.old.seat proc.old) result
             (point self.new.seat proc.new)) }
     {
-        if !has_row(proc, self.first, self.procs) {
+        if !has_row(proc, self.beyond) {
             return Err(Fault::NoRendez);
         }
         self.sema.semrelease(rt, proc, &mut self.seat, count)

@@ -1,4 +1,6 @@
 //! A read end that several processes share: each reads in its turn, and a note ends its wait.
+use crate::clock::Watch;
+use crate::many::{Splits, room_for, split_into};
 use crate::place::{Called, Place, end_of, place_of};
 use crate::semaphores::{Seat, Semaphore};
 use pipe_dev::{ReadAnswer, ReadEnd, TryAnswer};
@@ -42,10 +44,11 @@ impl<'p> From<Unshared<'p>> for Fault {
 }
 
 impl<'p> SharedEnd<'p> {
-    ghost use Rattle.std.specs.Prelude.{◌≡◌, ◌↔◌, true, None, IfOk, IfErr, OnErr, IfSome};
+    ghost use Rattle.std.specs.Prelude.{◌≡◌, ◌↔◌, true, None, IfOk, IfErr, OnOk, OnErr, IfSome};
     ghost use Rattle.sync_base.specs.declared.fault.Fault.TheVariants.{NoProc};
     ghost use Rattle.pipe_dev.specs.Ends.{IsSameReadEnd};
-    ghost use Rattle.plan9.specs.Sharings.{IsFirstShare, IsNewShared, IsNotShared, first_end};
+    ghost use Rattle.plan9.specs.Sharings.{AreShares, IsFirstShare, IsNewShared, IsNotShared};
+    ghost use Rattle.plan9.specs.Sharings.{MayShare, WhyNoShares, first_end};
 
     /// Lets this many processes share a read end. It takes as many Rendez as there are processes.
     /// Refuses, in this order, as `NoProc` where the processes are not from 1 to 1,024, `NoRendez`
@@ -95,6 +98,28 @@ impl<'p> SharedEnd<'p> {
         Ok(Share { seat, place })
     }
 
+    /// This many shares, in the order of their numbers: the first one, and each other split from
+    /// the one before it. Refuses, in this order, as `NoProc` where the count is 0 or above the
+    /// processes that may share the end, as `Memory`, and as `NoProc` where somebody had the first
+    /// share before. Takes memory for the list, and waits for the semaphore's lock.
+    pub fn shares<'s, R: Wait>(
+        &'s mut self,
+        alloc: Global,
+        rt: &R,
+        count: u64,
+    ) -> Result<Vec<Share<'s, 'p>>, Fault>
+        // Refused, in this order.
+        ensures in_range { OnOk result (MayShare self.old count) }
+        ensures fault { IfErr result (WhyNoShares self.old count) }
+
+        // Otherwise no other share was given.
+        ensures shares { IfOk result (λ shares. AreShares self.old count shares.items) }
+    {
+        let shares = room_for(alloc, self.turns.procs(), count)?;
+        let first = self.share()?;
+        split_into(rt, first, shares, count)
+    }
+
     /// The end, which nobody shares any more. Takes no memory and doesn't wait.
     pub fn into_end(self) -> Option<ReadEnd<'p>>
         ensures { IfSome result (IsSameReadEnd (first_end self.entry)) }
@@ -104,10 +129,23 @@ impl<'p> SharedEnd<'p> {
     }
 }
 
+impl<'s, 'p> Splits for Share<'s, 'p> {
+    ghost use Rattle.plan9.specs.Sharings.{GivesShare, KnowsNoShare};
+
+    ghost gives = { GivesShare };
+
+    ghost knows_none = { KnowsNoShare };
+
+    fn further<R: Wait>(&mut self, rt: &R) -> Result<Share<'s, 'p>, Fault> {
+        self.split(rt)
+    }
+}
+
 impl<'s, 'p> Share<'s, 'p> {
     ghost use Rattle.std.specs.Prelude.{◌≡◌, IfOk, IfErr, OnErr};
     ghost use Rattle.sync_base.specs.declared.fault.Fault.TheVariants.{NoProc};
     ghost use Rattle.semaphore.specs.Seats.{rendez_at};
+    ghost use Rattle.timer_list.specs.Timers.{deadline_of};
     ghost use Rattle.plan9.specs.Readings.{LiesIn, read_answer};
     ghost use Rattle.plan9.specs.Semaphores.{IsSameSeat, KnowsNoSeat};
     ghost use Rattle.plan9.specs.Sharings.{
@@ -121,6 +159,13 @@ impl<'s, 'p> Share<'s, 'p> {
       end_of,
       sharer,
     };
+    ghost use Rattle.plan9.specs.TimedSharings.{
+      InTimedTurn,
+      ReadsBlockOnceWithin,
+      ReadsOnceWithin,
+      watched_sharer,
+    };
+    ghost use Rattle.plan9.specs.Watches.{IsSameWatch};
 
     /// A further share, for another process. Refuses as `NoProc` where the end has had all its
     /// processes. It waits for the semaphore's lock. Takes no memory.
@@ -198,6 +243,66 @@ impl<'s, 'p> Share<'s, 'p> {
     {
         self.seat.acquire(rt, proc)?;
         let Called { answer, laid: _ } = self.place.read_block(rt, proc, block);
+        let _sum = self.seat.release(rt, proc, 1);
+        answer
+    }
+
+    /// A `read` that waits until a tick of the clock at the moment `now` + `ms` or later; that
+    /// moment is at most `u64::MAX`, and ends the wait for its turn and the wait for bytes. Own;
+    /// qlock in lock(2) and read(2) wait as long as it takes.
+    ///
+    /// Refuses, in this order, as `Seat::acquire_within` does where it waits for its turn, and then
+    /// as `ReadCalls::read_within` does. With any answer the end lies there again, and the turn is
+    /// given back; where a tick or notes ended the wait for its turn, it had none, and read
+    /// nothing. Takes no memory.
+    pub fn read_within<R: Wait>(
+        &mut self,
+        rt: &R,
+        proc: &mut Proc<'_>,
+        watch: &mut Watch<'_>,
+        now: u64,
+        ms: u32,
+        buffer: &mut [u8],
+    ) -> Result<ReadAnswer, Fault>
+        ensures same { IsSameShare self.old self.new }
+        ensures words { proc.new.words ≡ proc.old.words }
+        ensures watch { IsSameWatch watch.old watch.new }
+
+        // The wait for its turn and the read both end at this moment.
+        ensures turn { InTimedTurn (deadline_of now ms) (ReadsOnceWithin (deadline_of now ms))
+            (watched_sharer self.old proc.old watch.old) (buffers buffer.old buffer.new) result
+            (watched_sharer self.new proc.new watch.new) }
+    {
+        self.seat.acquire_within(rt, proc, watch, now, ms)?;
+        let Called { answer, laid: _ } = self.place.read_within(rt, proc, watch, now, ms, buffer);
+        let _sum = self.seat.release(rt, proc, 1);
+        answer
+    }
+
+    /// A `read_block` that waits until a moment, as `read_within` does, and is refused as that is,
+    /// but never with `BadCount`. Takes no memory.
+    pub fn read_block_within<R: Wait>(
+        &mut self,
+        rt: &R,
+        proc: &mut Proc<'_>,
+        watch: &mut Watch<'_>,
+        now: u64,
+        ms: u32,
+        block: &mut Vec<u8>,
+    ) -> Result<ReadAnswer, Fault>
+        ensures same { IsSameShare self.old self.new }
+        ensures words { proc.new.words ≡ proc.old.words }
+        ensures watch { IsSameWatch watch.old watch.new }
+
+        // The wait for its turn and the read both end at this moment.
+        ensures turn { InTimedTurn (deadline_of now ms) (ReadsBlockOnceWithin (deadline_of now ms))
+            (watched_sharer self.old proc.old watch.old)
+            (buffers block.old.items block.new.items) result
+            (watched_sharer self.new proc.new watch.new) }
+    {
+        self.seat.acquire_within(rt, proc, watch, now, ms)?;
+        let place = self.place;
+        let Called { answer, laid: _ } = place.read_block_within(rt, proc, watch, now, ms, block);
         let _sum = self.seat.release(rt, proc, 1);
         answer
     }

@@ -3,14 +3,14 @@
 ghost use Rattle.std.specs.Prelude.{◌≡◌, Some};
 ghost use Rattle.tag_space.specs.Members.{IsMemberOf};
 ghost use Rattle.tag_space.specs.Spaces.{IsFirstMember};
-ghost use Rattle.plan9.specs.Memberships.{IsRowOfSpace};
+ghost use Rattle.plan9.specs.Memberships.{SpaceEndsBefore};
 
 use crate::clock::Watch;
 use crate::known::has_row;
+use crate::many::{Splits, room_for, split_into};
 use sleep_wakeup::{Proc, Roster};
 use std::alloc::Global;
 use std::marker::Model;
-use std::mem;
 use std::sync::Wait;
 use sync_base::{Fault, NoProbe, Probe, RendezId, Tag};
 use tag_space::{Opened, TagSpace};
@@ -21,19 +21,22 @@ use timer_list::Deadline;
 pub struct Space {
     space: TagSpace,
     spare: Option<tag_space::Member>,
-    first: u64,
     procs: u64,
+    /// The Rendez behind its last one.
+    beyond: u64,
 }
 
 impl Model for Space {
-    ghost use Rattle.plan9.specs.Memberships.{Hosting, IsRowOfSpace, IsSpareMember};
+    ghost use Rattle.std.specs.Prelude.{◌≡◌};
+    ghost use Rattle.plan9.specs.Memberships.{Hosting, IsSpareMember, SpaceEndsBefore};
 
     ghost Value = { Hosting };
 
     ghost view = { λ it. record { space = it.space; spare = it.spare } };
 
     ghost invariant = { λ it. record {
-      row : IsRowOfSpace it.space it.first it.procs;
+      procs_are : it.space.procs ≡ it.procs;
+      row : SpaceEndsBefore it.space it.beyond;
       spare : IsSpareMember it.space it.spare;
     } };
 }
@@ -43,21 +46,23 @@ impl Model for Space {
 #[derive(Drop)]
 pub struct Member<'s> {
     pub(crate) space: &'s TagSpace,
-    pub(crate) first: u64,
     pub(crate) procs: u64,
+    pub(crate) beyond: u64,
     pub(crate) member: tag_space::Member,
 }
 
 impl<'s> Model for Member<'s> {
+    ghost use Rattle.std.specs.Prelude.{◌≡◌};
     ghost use Rattle.tag_space.specs.Members.{IsMemberOf};
-    ghost use Rattle.plan9.specs.Memberships.{IsRowOfSpace, Membered};
+    ghost use Rattle.plan9.specs.Memberships.{Membered, SpaceEndsBefore};
 
     ghost Value = { Membered };
 
     ghost view = { λ it. record { space = it.space.now; member = it.member } };
 
     ghost invariant = { λ it. record {
-      row : IsRowOfSpace it.space.now it.first it.procs;
+      procs_are : it.space.now.procs ≡ it.procs;
+      row : SpaceEndsBefore it.space.now it.beyond;
       member_is : IsMemberOf it.space.now it.member;
     } };
 }
@@ -72,33 +77,33 @@ pub(crate) fn space_of(space: TagSpace, member: tag_space::Member, procs: u64) -
     Space {
         space,
         spare: Some(member),
-        first,
         procs,
+        beyond: first + procs,
     }
 }
 
-// A member of a space whose Rendez are so many from this one on.
+// A member of a space of so many processes, which has the Rendez below this one.
 pub(crate) fn member_of<'s>(
     space: &'s TagSpace,
-    first: u64,
     procs: u64,
+    beyond: u64,
     member: tag_space::Member,
 ) -> Member<'s>
-    requires row { IsRowOfSpace space.now first procs }
+    requires procs { space.now.procs ≡ procs }
+    requires row { SpaceEndsBefore space.now beyond }
     requires member { IsMemberOf space.now member }
     ensures { result ≡ record { space = space.now; member = member } }
 {
     Member {
         space,
-        first,
         procs,
+        beyond,
         member,
     }
 }
 
 impl Space {
-    ghost use Rattle.std.specs.Prelude.{◌≡◌, ◌≤◌, ◌↔◌, true, [], None, IfOk, IfErr, OnOk, OnErr};
-    ghost use Rattle.std.specs.Vec.{vec_capacity};
+    ghost use Rattle.std.specs.Prelude.{◌≡◌, ◌≤◌, ◌↔◌, true, None, IfOk, IfErr, OnOk, OnErr};
     ghost use Rattle.sync_base.specs.declared.fault.Fault.TheVariants.{NoProc};
     ghost use Rattle.sleep_core.specs.Limits.{IsProcCount};
     ghost use Rattle.sleep_wakeup.specs.Kernel.{rendez_less};
@@ -143,6 +148,13 @@ impl Space {
         Ok(space_of(space, member, self.procs))
     }
 
+    // How many processes may call in it.
+    fn procs(&self) -> u64
+        ensures { result ≡ self.now.space.procs }
+    {
+        self.procs
+    }
+
     /// Whether nobody has had the first member. Takes no memory and doesn't wait.
     pub fn has_member(&self) -> bool
         ensures { result ≡ true ↔ ¬ (self.now.spare ≡ None) }
@@ -164,8 +176,8 @@ impl Space {
             None => Err(Fault::NoProc),
             Some(member) => Ok(Member {
                 space: &self.space,
-                first: self.first,
                 procs: self.procs,
+                beyond: self.beyond,
                 member,
             }),
         }
@@ -188,30 +200,21 @@ impl Space {
         // Otherwise no other member was given.
         ensures members { IfOk result (λ members. AreMembers self.old count members.items) }
     {
-        let mut members = self.room_for(alloc, count)?;
-        let mut last = self.member()?;
-        'splitting: for _ in 1..count {
-            let next = last.split(rt)?;
-            members.push_reserved(mem::replace(&mut last, next));
-        }
-        members.push_reserved(last);
-        Ok(members)
+        let members = room_for(alloc, self.procs(), count)?;
+        let first = self.member()?;
+        split_into(rt, first, members, count)
     }
+}
 
-    // Room for so many members. Who is refused here has not taken the first one.
-    fn room_for<'s>(&self, alloc: Global, count: u64) -> Result<Vec<Member<'s>>, Fault>
-        ensures may { OnOk result (MayGive self.now count) }
-        ensures fault { IfErr result (WhyNoMembers self.now count) }
-        ensures none { IfOk result (λ members. members.items ≡ []) }
-        ensures room { IfOk result (λ members. count ≤ vec_capacity members) }
-    {
-        if count == 0 || self.procs < count {
-            return Err(Fault::NoProc);
-        }
-        let Ok(members) = Vec::with_capacity(alloc, count as usize) else {
-            return Err(Fault::Memory);
-        };
-        Ok(members)
+impl<'s> Splits for Member<'s> {
+    ghost use Rattle.plan9.specs.Memberships.{GivesAnother, KnowsNoMember};
+
+    ghost gives = { GivesAnother };
+
+    ghost knows_none = { KnowsNoMember };
+
+    fn further<R: Wait>(&mut self, rt: &R) -> Result<Member<'s>, Fault> {
+        self.split(rt)
     }
 }
 
@@ -245,8 +248,8 @@ impl<'s> Member<'s> {
         let member = self.space.fork_member(rt, &mut self.member)?;
         Ok(Member {
             space: self.space,
-            first: self.first,
             procs: self.procs,
+            beyond: self.beyond,
             member,
         })
     }
@@ -297,7 +300,7 @@ impl<'s> Member<'s> {
             (MeetsOnce (record { tag = tag; value = value }) (calls self.old proc.old) result
             (calls self.new proc.new)) }
     {
-        if !has_row(proc, self.first, self.procs) {
+        if !has_row(proc, self.beyond) {
             return Err(Fault::NoRendez);
         }
         self.space
@@ -323,7 +326,7 @@ impl<'s> Member<'s> {
             (MeetsInWords (record { tag = tag; value = value }) (calls self.old proc.old) result
             (calls self.new proc.new)) }
     {
-        if !has_row(proc, self.first, self.procs) {
+        if !has_row(proc, self.beyond) {
             return Err(Fault::NoRendez);
         }
         self.space
@@ -387,7 +390,7 @@ impl<'s> Member<'s> {
             (calls_with self.old proc.old watch.old) result
             (calls_with self.new proc.new watch.new)) }
     {
-        if !has_row(proc, self.first, self.procs) {
+        if !has_row(proc, self.beyond) {
             return Err(Fault::NoRendez);
         }
         let until = Deadline {

@@ -70,6 +70,7 @@ fn of_scene<'t>(text: &'t str, word: &str, words: &mut Words<'t>) -> Option<Verb
         "clock" => Clock(number(words)?),
         "space" => Space(number(words)?),
         "new_group" => NewGroup(number(words)?),
+        "queue" => Queue(number(words)?, number(words)?),
         "stranger" => Stranger(number(words)?, number(words)?, role(words)??),
         "left" => Left,
         "rendez" => Level(number(words)?),
@@ -139,6 +140,19 @@ fn call_of(word: &str, words: &mut Words<'_>) -> Option<Call> {
         }
         "rendezvous_word" => RendezvousWord(number(words)?, number(words)?),
         "rendez" => Rendez,
+        _ => return call_of_queue(word, words),
+    })
+}
+
+// A call by a sender or a receiver of a queue alone.
+fn call_of_queue(word: &str, words: &mut Words<'_>) -> Option<Call> {
+    Some(match word {
+        "send" => Send(number(words)?),
+        "send_within" => SendWithin(deadline(words)?, number(words)?),
+        "try_send" => TrySend(number(words)?),
+        "receive" => Receive,
+        "receive_within" => ReceiveWithin(deadline(words)?),
+        "try_receive" => TryReceive,
         _ => return None,
     })
 }
@@ -208,6 +222,8 @@ fn name_of(word: &str) -> Option<RoleName> {
         "holder" => Some(RoleName::Holder),
         "guest" => Some(RoleName::Guest),
         "sharer" => Some(RoleName::Sharer),
+        "sender" => Some(RoleName::Sender),
+        "receiver" => Some(RoleName::Receiver),
         _ => None,
     }
 }

@@ -13,6 +13,8 @@ pub enum RoleName {
     Holder,
     Guest,
     Sharer,
+    Sender,
+    Receiver,
 }
 
 impl RoleName {
@@ -26,13 +28,27 @@ impl RoleName {
             Call::Read(_) => matches!(self, RoleName::Reader | RoleName::Sharer),
             Call::ReadWithin(_, _) | Call::TryRead(_) | Call::ReadBlock => self == RoleName::Reader,
             Call::NextPiece(_) | Call::ReadExact(_) => self == RoleName::Reader,
-            Call::Hangup => matches!(self, RoleName::Reader | RoleName::Writer),
+            Call::Hangup => self.hangs_up(),
             Call::Acquire | Call::TryAcquire | Call::AcquireWithin(_) => self == RoleName::Holder,
             Call::Release(_) => self == RoleName::Holder,
             Call::Rendezvous(_, _) | Call::RendezvousWithin(_, _, _) => self == RoleName::Guest,
             Call::RendezvousWord(_, _) => self == RoleName::Guest,
-            Call::Rendez => matches!(self, RoleName::Holder | RoleName::Guest),
+            Call::Send(_) | Call::SendWithin(_, _) | Call::TrySend(_) => self == RoleName::Sender,
+            Call::Receive | Call::ReceiveWithin(_) => self == RoleName::Receiver,
+            Call::TryReceive => self == RoleName::Receiver,
+            Call::Rendez => matches!(self, RoleName::Holder | RoleName::Guest)
+                || self.is_of_queue(),
         }
+    }
+
+    // Whether what it has can be hung up.
+    fn hangs_up(self) -> bool {
+        matches!(self, RoleName::Reader | RoleName::Writer) || self.is_of_queue()
+    }
+
+    // Whether it is at a queue.
+    fn is_of_queue(self) -> bool {
+        matches!(self, RoleName::Sender | RoleName::Receiver)
     }
 
     /// Whether a process in this role makes the calls of a process alone, and forks.
@@ -69,6 +85,7 @@ pub enum Verb<'t> {
     Clock(u64),
     Space(u64),
     NewGroup(u64),
+    Queue(u64, u64),
     // processes
     Stranger(u64, u64, RoleAt),
     Fork(Option<RoleAt>),
@@ -146,7 +163,14 @@ pub enum Call {
     Rendezvous(u64, u64),
     RendezvousWithin(Deadline, u64, u64),
     RendezvousWord(u64, u64),
-    // the Rendez in which a process waits for a unit, or for a partner
+    // queue(2)
+    Send(u64),
+    SendWithin(Deadline, u64),
+    TrySend(u64),
+    Receive,
+    ReceiveWithin(Deadline),
+    TryReceive,
+    // the Rendez in which a process waits for a unit, a partner, room or a value
     Rendez,
 }
 

@@ -1,10 +1,10 @@
-mod AskLemmas
+pub mod AskLemmas
 mod WaitQueueLemmas
-mod ReleaseLemmas
+pub mod ReleaseLemmas
 mod RequestLemmas
 mod SemaLawLemmas
 mod SemaLemmas
-mod TellLemmas
+pub mod TellLemmas
 pub mod UnitLemmas
 mod WokenLemmas
 mod WorkedAsking

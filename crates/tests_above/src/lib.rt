@@ -4,14 +4,16 @@
 //! `pipes`, `many` and `streams`, at queues and pipes; `partners`, two that meet, `members`, which
 //! meet in a crowd, and `member_forks`, what rfork makes of a member; `acquirers` of units,
 //! `turns`, in which several units are taken at once, and `tickers`; `timed`, a crowd at a pipe and
-//! a crowd of sleepers, whose calls have deadlines; `crews`, writers and a reader; and `pages`, the
-//! examples of the manual.
+//! a crowd of sleepers, whose calls have deadlines, and `deadlines`, one such call after another;
+//! `crews`, writers and a reader; and `pages`, the examples of the manual.
 #![tactic(auto)]
 
 #[cfg(test)]
 mod acquirers;
 #[cfg(test)]
 mod crews;
+#[cfg(test)]
+mod deadlines;
 #[cfg(test)]
 mod dice;
 #[cfg(test)]

@@ -16,7 +16,8 @@ use std::sync::atomic::Ordering::SeqCst;
 use std::sync::atomic::{AtomicBool, AtomicU64};
 use std::thread::{self, Threads, yield_now};
 
-/// A pipe of this limit, with this many writers in each direction.
+/// A pipe of this limit, with this many writers in each direction; it is asked for once more where
+/// it was refused, for want of memory.
 pub fn pipe_of<'p>(
     rt: &impl Abort,
     alloc: Global,
@@ -26,6 +27,9 @@ pub fn pipe_of<'p>(
 ) -> OpenedPipe<'p>
     ensures start { IsPipeStart result.pipe result.start }
 {
+    if let Ok(opened) = Pipe::new(alloc, roster, limit, writers) {
+        return opened;
+    }
     Pipe::new(alloc, roster, limit, writers).expect(rt, "no pipe")
 }
 

@@ -66,9 +66,9 @@ def found_differ(program, events, calls, written_out=None):
 
 
 def grains_differ(program, events):
-    """Where the search by calls differs from this one by events, or None. Also how many states it has."""
+    """Where the search by calls differs from this one by events, or None. Also what it found."""
     calls = search(CallMachine(program), events.states + LIMIT)
-    return found_differ(program, events, calls), calls.states
+    return found_differ(program, events, calls), calls
 
 
 def smallest(program):
@@ -88,18 +88,21 @@ def has_its_states():
             fail(f"by calls it has {found.states} states and {found.verdict}, of this program:\n" + "\n".join(lines))
 
 
-def grains_agree(kinds, seeds):
-    """Compares the random programs of these kinds with these seeds."""
+def grains_agree(kinds, seeds, differs=lambda program, calls: None):
+    """Compares the random programs of these kinds with these seeds, and what the search by calls found with something else."""
     taken = collections.Counter()
     for kind, seed in ((kind, seed) for kind in kinds for seed in seeds):
         program, found = random_program(kind, seed, FEWER)
         if has_two_readers(program):
             taken["refused"] += 1
             continue
-        why, states = grains_differ(program, found)
+        why, calls = grains_differ(program, found)
         if why:
             small = smallest(program)
             fail(f"{kind} {seed}: {grains_differ(small, search(Machine(small), LIMIT))[0]}, of this program:\n{small.script()}")
+        why = differs(program, calls)
+        if why:
+            fail(f"{kind} {seed}: {why}, of this program:\n{program.script()}")
         taken.update({"programs": 1, found.verdict: 1, "none ends": not found.ends, "last": len(found.last), "events": found.states,
-                      "calls": states, "expired": posts_expired(program)})
+                      "calls": calls.states, "expired": posts_expired(program)})
     return taken

@@ -6,6 +6,7 @@ choice.
 import re
 
 from modelled import devices as dev
+from modelled import queues
 from modelled.layer import NO_PROC, NO_RENDEZ, RFNOTEG, RFPROC, RFREND, Kernel, Proc, Roster, kinds_word, sleep, wakeup
 
 NOT_ITS, NOT_HERE, NO_CLOCK, WAITS_STILL = "not its call", "not here", "no clock", "waits still"
@@ -19,14 +20,18 @@ CALLS = {
     "holder": {"acquire", "try_acquire", "acquire_within", "release", "rendez", "note", "notes"},
     "guest": {"rfork", "rendezvous", "rendezvous_within", "rendezvous_word", "rendez", "note", "notes"},
     "sharer": {"read"},
+    "sender": {"send", "send_within", "try_send", "hangup", "rendez", "note", "notes"},
+    "receiver": {"receive", "receive_within", "try_receive", "hangup", "rendez", "note", "notes"},
 }
+HANDLES = {"sender": 0, "receiver": 1}  # of a queue, with the place of the first one among its Rendez
 FORKS = {"zero", "plain", "reader", "writer"}
 PROBED = {"sleep": {"plain", "reader", "writer"}, "acquire": {"holder"}, "try_acquire": {"holder"}, "acquire_within": {"holder"},
           "rendezvous": {"guest"}, "rendezvous_within": {"guest"}}
 # How many operands a call of another process than 0 has. A role may stand behind them.
 OPERANDS = {"sleep": 2, "sleep_within": 4, "wakeup": 2, "tick": 1, "note": 2, "put_back": 1, "read": 1, "read_within": 3, "try_read": 1,
             "next_piece": 1, "read_exact": 1, "write": 1, "write_within": 3, "write_long": 1, "acquire_within": 2, "release": 1,
-            "rendezvous": 2, "rendezvous_within": 4, "rendezvous_word": 2}
+            "rendezvous": 2, "rendezvous_within": 4, "rendezvous_word": 2, "send": 1, "send_within": 3, "try_send": 1,
+            "receive_within": 2}
 # The calls in a role at an object that need no Rendez of it.
 NEEDS_NO_ROW = {"note", "notes", "rendez"}
 # The calls that do something before their first point or step.
@@ -58,7 +63,7 @@ def bytes_of(word):
 def planned(words):
     """The processes and the Rendez that a plan's kernel has."""
     sizes = list(zip(words[::2], map(int, words[1::2])))
-    rendez = {"rendez": (1, 0), "pipe": (2, 2), "space": (1, 0), "sema": (1, 0)}
+    rendez = {"rendez": (1, 0), "pipe": (2, 2), "space": (1, 0), "sema": (1, 0), "queue": (1, 0)}
     row = [rendez[kind][0] * size + rendez[kind][1] for kind, size in sizes if kind in rendez]
     return max([1] + [size for kind, size in sizes if kind != "rendez"]), sum(row)
 
@@ -111,7 +116,7 @@ class Held:
 
     def row(self):
         """Where the seats of its thing are counted; none where it has no seat."""
-        return self.thing.line if self.role == "sharer" else self.thing if self.role in ("holder", "guest") else None
+        return self.thing.line if self.role == "sharer" else self.thing if self.role in ("holder", "guest", *HANDLES) else None
 
 
 class Actor:
@@ -149,7 +154,7 @@ class Lab:
         self.order, self.may_wait, self.raced, self.steps = order, may_wait, False, 0
         self.kernel = self.roster = None
         self.actors, self.strangers = {}, 0
-        self.pipes, self.semas, self.clocks, self.spaces, self.turns = ([] for _ in range(5))
+        self.pipes, self.semas, self.clocks, self.spaces, self.turns, self.queues = ([] for _ in range(6))
         self.kept, self.acted, self.is_fresh, self.keeper = [], [], True, None
         self.played, self.playing = 0, []  # how many lines were, and which are: one, and those that are kept in it
 
@@ -445,6 +450,12 @@ class Lab:
             return "no space"
         return self.make_space(self.spaces[number - 1].seats)
 
+    def make_queue(self, capacity, handles):
+        capacity, handles = int(capacity), int(handles)
+        if not 1 <= capacity <= queues.MOST_VALUES or not 2 <= handles <= queues.MOST_HANDLES:
+            return "bad size"
+        return self.make_row(self.queues, handles, lambda first: queues.Queue(capacity, handles, first))
+
     def make_clock(self, seats):
         if not 1 <= int(seats) <= 1024:
             return NO_PROC
@@ -537,7 +548,8 @@ class Lab:
 
     def thing(self, role, which):
         """What has seats for this role; none where there is no such thing."""
-        kind = {"holder": self.semas, "guest": self.spaces, "sharer": self.turns}.get(role, [])
+        kinds = {"holder": self.semas, "guest": self.spaces, "sharer": self.turns, **dict.fromkeys(HANDLES, self.queues)}
+        kind = kinds.get(role, [])
         return kind[which - 1] if which <= len(kind) else None
 
     def who_has(self, role, thing):
@@ -552,6 +564,8 @@ class Lab:
         if role in ("reader", "writer"):
             return self.get_end(role, which, is_back)
         thing = self.thing(role, which)
+        if role in HANDLES:
+            return self.get_handle(role, which, is_back, thing)
         if thing is None or Held(role, thing=thing).row().given and not self.who_has(role, thing):
             return NO_PROC
         return self.beside(role, which, thing, is_back)
@@ -565,6 +579,13 @@ class Lab:
             return Held(role, which, is_back, way)
         way.written += 1
         return Held(role, which, is_back, way, way.written - 1)
+
+    def get_handle(self, role, which, is_back, queue):
+        """The first sender or receiver of a queue; or a further one, if a process here has one."""
+        if queue is not None and role not in queue.had:
+            queue.had.add(role)
+            return Held(role, which, is_back, queue, HANDLES[role])
+        return self.beside(role, which, queue, is_back) if queue is not None and self.who_has(role, queue) else NO_PROC
 
     def beside(self, role, which, thing, is_back=False):
         """The next seat of a thing, if there is one."""
@@ -621,7 +642,8 @@ class Lab:
         if verb.endswith("_within") and not actor.proc.timer:
             return NO_CLOCK
         if verb not in NEEDS_NO_ROW and lacks(actor.proc.kernel.rendez, actor.held):
-            return done(lambda: NO_RENDEZ)
+            value = f" {numbers[-1]}" if actor.role == "sender" and numbers else ""
+            return done(lambda: NO_RENDEZ + value)
         if verb == "room":
             raise NotAScene("the model knows no memory")
         return getattr(self, f"call_{verb}")(actor, words, numbers)
@@ -682,7 +704,8 @@ class Lab:
         return dev.write_long(actor.proc, actor.thing, actor.seat, bytes_of(words[0]))
 
     def call_hangup(self, actor, *_):
-        return dev.hangup(actor.proc, actor.thing)
+        hangup = queues.hang_up if actor.role in HANDLES else dev.hangup
+        return hangup(actor.proc, actor.thing)
 
     def call_acquire(self, actor, *_):
         return dev.acquire(actor.proc, actor.thing, actor.seat)
@@ -704,6 +727,24 @@ class Lab:
 
     def call_rendezvous_within(self, actor, _, numbers):
         return dev.rendezvous_within(actor.proc, actor.thing, actor.seat, *numbers)
+
+    def call_send(self, actor, _, numbers):
+        return queues.send(actor.proc, actor.thing, actor.seat, numbers[0])
+
+    def call_try_send(self, actor, _, numbers):
+        return queues.send(actor.proc, actor.thing, actor.seat, numbers[0], False)
+
+    def call_send_within(self, actor, _, numbers):
+        return queues.send_within(actor.proc, actor.thing, actor.seat, *numbers)
+
+    def call_receive(self, actor, *_):
+        return queues.receive(actor.proc, actor.thing, actor.seat)
+
+    def call_try_receive(self, actor, *_):
+        return queues.receive(actor.proc, actor.thing, actor.seat, False)
+
+    def call_receive_within(self, actor, _, numbers):
+        return queues.receive_within(actor.proc, actor.thing, actor.seat, *numbers)
 
     def call_rendez(self, actor, *_):
         if actor.role == "zero":

@@ -14,11 +14,15 @@ from modelled.orders import EXTREMES, Order
 
 ORDERS, MOST_CALLS, STRANGERS = 16, 34, 1024
 WAITING = {"sleep", "sleep_within", "read", "read_within", "read_block", "next_piece", "read_exact", "write", "write_within",
-           "write_long", "acquire", "acquire_within", "rendezvous", "rendezvous_within", "rendezvous_word"}
+           "write_long", "acquire", "acquire_within", "rendezvous", "rendezvous_within", "rendezvous_word", "send", "send_within",
+           "receive", "receive_within"}
 # What a role calls more often than the rest of its calls.
 OFTEN = {"reader": ["read", "read_within", "try_read", "read_block"], "writer": ["write", "write_within"],
          "plain": ["sleep", "sleep_within"], "holder": ["acquire", "acquire_within", "release"],
-         "guest": ["rendezvous", "rendezvous_within"], "zero": ["note", "tick"], "sharer": ["read"]}
+         "guest": ["rendezvous", "rendezvous_within"], "zero": ["note", "tick"], "sharer": ["read"],
+         "sender": ["send", "send", "send_within", "try_send"], "receiver": ["receive", "receive", "receive_within", "try_receive"]}
+TIMED = {"reader": "read_within", "writer": "write_within", "holder": "acquire_within", "guest": "rendezvous_within",
+         "sender": "send_within", "receiver": "receive_within"}
 # How many points a call has.
 POINTS = {"sleep": 6, "acquire": 4, "try_acquire": 4, "acquire_within": 4, "rendezvous": 4, "rendezvous_within": 4}
 
@@ -63,7 +67,7 @@ class LeftOut(Exception):
 class Maker:
     def __init__(self, seed):
         self.seed, self.dice = seed, random.Random(seed)
-        self.lab, self.lines, self.now = Lab(), [], 100
+        self.lab, self.lines, self.now, self.sent = Lab(), [], 100, 0
         self.calls = {}
 
     def scene(self):
@@ -226,7 +230,7 @@ class Maker:
         return min(sum(map(int, self.calls[actor.number][1:3])), 2**64 - 1)
 
     def timed_call(self, actor):
-        own = {"reader": "read_within", "writer": "write_within", "holder": "acquire_within", "guest": "rendezvous_within"}.get(actor.role)
+        own = TIMED.get(actor.role)
         verb = own if own and (actor.role not in SLEEPERS or self.dice.random() < 0.7) else "sleep_within"
         return [verb, *self.operands(actor, verb)]
 
@@ -241,7 +245,7 @@ class Maker:
         if actor.role in OFTEN and dice.random() < 0.6:
             return dice.choice(OFTEN[actor.role])
         if actor.role != "zero" and dice.random() < 0.03:
-            return dice.choice(sorted(ALONE | {"read", "write", "hangup", "acquire", "release", "rendezvous"}))
+            return dice.choice(sorted(ALONE | {"read", "write", "hangup", "acquire", "release", "rendezvous", "send", "receive"}))
         return dice.choice(sorted(CALLS[actor.role] - {"room"}))
 
     def filling(self, actor):
@@ -275,6 +279,7 @@ class Maker:
         others += [f"{dice.choice(here[1:]).number} gets {self.role()}"] * 3 if here[1:] else []
         return [fork, *others, "0 fork writers" + back, f"pipe {size} {dice.choice([0, 1, 64, 65])}", f"stream {size} 1",
                 f"sema {dice.choice([0, 1, 2147483647, 2147483648])} {size}", f"space {size}", f"clock {size}", "new_group 1",
+                f"queue {dice.choice([0, 1, 1048576, 1048577])} {size}",
                 f"share {size}", f"0 row {dice.choice([0, 1, 2, 9])}", "0 pids_left", "0 rendez_left", "left",
                 f"{dice.choice(self.idle()).number} rendez", f"{dice.choice(self.idle()[-1:]).number} clock" if self.idle()[1:] else "left",
                 f"stranger {dice.choice([0, 1, 2, 1025])} {dice.choice([0, 1, 9, 8193])} {self.role()}"]
@@ -310,7 +315,7 @@ class Maker:
             return ["rendezvous", words[-2], str(self.dice.randrange(9))] if words[0].startswith("rendezvous") else ["notes"]
         if other.role == "holder":
             return ["release", str(self.dice.choice([1, 1, 2]))]
-        verb = {"reader": "read", "writer": "write", "sharer": "read"}.get(other.role, "notes")
+        verb = {"reader": "read", "writer": "write", "sharer": "read", "sender": "send", "receiver": "receive"}.get(other.role, "notes")
         return [verb, *self.operands(other, verb)]
 
     # ---- kept lines
@@ -373,6 +378,11 @@ class Maker:
         return dice.choice(["-", "a", "bc", "def", "-", "ghijk", "".join(dice.choices("lmnopq", k=dice.randint(1, 9))), "33*x", "40*y",
                             "65537*w", dice.choice(["65536*z", "2*v", "100*"])])
 
+    def value(self):
+        """A value that no send before had, mostly."""
+        self.sent += 1
+        return str(self.dice.choice([self.sent] * 9 + [0, 2**64 - 1]))
+
     def moment(self):
         dice = self.dice
         self.now += dice.choice([0, 0, 1, 10])
@@ -401,6 +411,10 @@ class Maker:
             "rendezvous_word": lambda: tagged,
             "rendezvous_within": lambda: [*self.moment(), *tagged],
             "rfork": lambda: [dice.choice(["-", "proc", "proc", "noteg", "proc,noteg", "rend", "proc,rend", "proc,rend,noteg", "8"])],
+            "send": lambda: [self.value()],
+            "try_send": lambda: [self.value()],
+            "send_within": lambda: [*self.moment(), self.value()],
+            "receive_within": lambda: [*self.moment()],
             "row": lambda: [str(dice.choice([0, 1, 2, 9]))],
         }
         if verb in ("read", "try_read", "next_piece", "read_exact"):

@@ -263,12 +263,18 @@ def leave_nothing(maker, actor, words):
     if words[0] == "write_within" and not actor.thing.hung:
         for _ in range(actor.thing.limit - len(actor.thing.blocks)):
             maker.make_call(actor, ["write", "a"])
+    if words[0] == "send_within" and not actor.thing.hung:
+        for _ in range(actor.thing.capacity - len(actor.thing.values)):
+            maker.make_call(actor, ["try_send", maker.value()])
+    if words[0] == "receive_within":
+        for _ in range(len(actor.thing.values)):
+            maker.make_call(actor, ["try_receive"])
 
 
 def end_at_a_moment(maker, actor, words, moment):
     """Ends a call until this moment by a tick, mostly, or by a note or by what it waits for."""
     dice = maker.dice
-    others = [it for it in maker.idle() if it.thing is actor.thing and it.role in ("holder", "guest", "reader", "writer")]
+    others = [it for it in maker.idle() if it.thing is actor.thing and it.role in ("holder", "guest", "reader", "writer", *VALUES)]
     how = dice.random()
     if how < 0.3 and others:
         other = dice.choice(others)
@@ -321,11 +327,122 @@ def raise_a_level(maker):
     maker.tell(f"rendez {place}" if place < maker.lab.kernel.rendez else "0 notes")
 
 
-PIPES, UNITS, TAGS = {"reader"}, {"holder"}, {"guest"}
+def at_queue(maker):
+    """A queue with its idle senders and its idle receivers, if one has both."""
+    rows = {}
+    for actor in maker.idle():
+        if actor.role in ("sender", "receiver"):
+            rows.setdefault(actor.thing, ([], []))[actor.role == "receiver"].append(actor)
+    full = [(queue, *row) for queue, row in rows.items() if all(row)]
+    return maker.dice.choice(full) if full else (None, [], [])
+
+
+def call_by_one(maker, actors, words):
+    """A call by one of these, if one makes none."""
+    idle = [it for it in actors if not it.run and not it.is_gone]
+    if idle:
+        maker.make_call(maker.dice.choice(idle), words)
+
+
+def timed(maker, actor, verb):
+    """The call until a moment of this name, now and then, if the process can make it."""
+    return [f"{verb}_within", *maker.moment()] if actor.proc.timer and maker.dice.random() < 0.3 else [verb]
+
+
+def fill_a_queue(maker):
+    """Sends until there is no room, and then a line of senders, of which one may leave it; receives, a hangup or notes end them all."""
+    dice, (queue, senders, receivers) = maker.dice, at_queue(maker)
+    if not queue:
+        return
+    for _ in range(queue.capacity - len(queue.values)):
+        call_by_one(maker, senders, ["try_send" if dice.random() < 0.2 else "send", maker.value()])
+    waiting = [it for it in dice.sample(senders, len(senders)) if not it.run]
+    for actor in waiting:
+        maker.make_call(actor, [*timed(maker, actor, "send"), maker.value()])
+    end_a_line(maker, waiting, receivers, lambda: [dice.choice(["receive", "receive", "try_receive"])])
+
+
+def line_up_receivers(maker):
+    """Receives until there is no value, and then a line of receivers, of which one may leave it; sends, a hangup or notes end them all."""
+    dice, (queue, senders, receivers) = maker.dice, at_queue(maker)
+    if not queue:
+        return
+    for _ in range(len(queue.values)):
+        call_by_one(maker, receivers, [dice.choice(["receive", "try_receive"])])
+    waiting = [it for it in dice.sample(receivers, len(receivers)) if not it.run]
+    for actor in waiting:
+        maker.make_call(actor, timed(maker, actor, "receive"))
+    end_a_line(maker, waiting, senders, lambda: [dice.choice(["send", "send", "try_send"]), maker.value()])
+
+
+def end_a_line(maker, waiting, others, answer):
+    """Ends what waits at a queue: a note to one, wakeups in vain, and then what the others do, or a hangup."""
+    dice = maker.dice
+    parked = [it for it in waiting if it.run and it.number < 1024]
+    if parked and dice.random() < 0.4:
+        maker.tell(f"0 note {dice.choice(parked).proc.pid} {maker.kinds()}")
+    for _ in range(dice.choice([0, 0, 1, 2]) if parked else 0):
+        maker.tell(f"0 wakeup {parked[0].thing.first + parked[0].seat} 0")
+    for _ in range(dice.choice([1, 2, 2, 3])):
+        if dice.random() < 0.2:
+            call_by_one(maker, [*others, *waiting], [dice.choice(["hangup", "hangup", "hangup", "rendez"])])
+        else:
+            call_by_one(maker, others, answer())
+    for actor in dice.sample([*waiting, *others], 2) if dice.random() < 0.3 else []:
+        maker.tell(f"{actor.number} look")
+
+
+def hang_up_a_queue(maker):
+    """Sends, a hangup, sends of each kind, and receives up to the end and past it."""
+    dice, (queue, senders, receivers) = maker.dice, at_queue(maker)
+    if not queue or len(maker.lines) < 12 and dice.random() < 0.5:
+        return
+    for _ in range(dice.choice([0, 1, 2])):
+        call_by_one(maker, senders, ["try_send", maker.value()])
+    call_by_one(maker, [*senders, *receivers], ["hangup"])
+    for verb in dice.sample(["send", "try_send", "send_within", "hangup"], 2):
+        actor = dice.choice(senders)
+        if not actor.run:
+            maker.make_call(actor, [verb, *maker.operands(actor, verb)])
+    for _ in range(dice.choice([1, 2, 3])):
+        call_by_one(maker, receivers, [dice.choice(["receive", "try_receive"])])
+
+
+def grant_by_a_stranger(maker):
+    """A stranger grants room or a value to who waits, and wakes nobody here: then it hangs up, or who waits is ended by notes or a tick."""
+    dice, (queue, senders, receivers) = maker.dice, at_queue(maker)
+    if not queue or queue.given == queue.seats or queue.hung:
+        return
+    is_send = dice.random() < 0.5
+    waiting, others = (senders, "receiver") if is_send else (receivers, "sender")
+    actor = dice.choice(waiting)
+    number = 1024 + maker.lab.strangers
+    maker.tell(f"stranger 1 {maker.lab.kernel.rendez} {others} {actor.which}")
+    if number not in maker.lab.actors or actor.number >= 1024:
+        return
+    for _ in range(queue.capacity - len(queue.values) if is_send else len(queue.values)):
+        maker.make_call(actor, ["try_send", maker.value()] if is_send else ["try_receive"])
+    words = [*timed(maker, actor, "send"), maker.value()] if is_send else timed(maker, actor, "receive")
+    maker.make_call(actor, words)
+    maker.tell(f"{number} {'try_receive' if is_send else 'try_send ' + maker.value()}")
+    for it in [it for it in waiting if not it.run][:dice.choice([0, 1, 1])]:
+        maker.make_call(it, ["try_send", maker.value()] if is_send else ["try_receive"])
+    if dice.random() < 0.4:
+        maker.tell(f"{number} hangup")
+    if words[0].endswith("_within") and dice.random() < 0.7:
+        maker.tell(f"0 tick {maker.deadline(actor)}")
+    maker.tell(f"0 note {actor.proc.pid} {maker.kinds()}")
+    if not actor.run:
+        maker.tell(f"{actor.number} notes")
+
+
+PIPES, UNITS, TAGS, VALUES = {"reader"}, {"holder"}, {"guest"}, {"sender", "receiver"}
 # Each with how often it is made, and the roles of which it needs one.
 MOVES = [(2, fill_a_pipe, PIPES), (3, pass_empty_writes, PIPES), (1, send_whole_blocks, PIPES), (1, hang_up_and_go_on, PIPES),
-         (1, meet_a_deadline, {"plain", "reader"}), (2, meet_a_deadline, UNITS | TAGS),
-         (2, wait_in_vain_until_a_moment, {"plain", "reader", "writer", "holder", "guest"}), (1, note_a_group, {"zero"}), (2, line_up, UNITS),
+         (1, meet_a_deadline, {"plain", "reader"}), (2, meet_a_deadline, UNITS | TAGS | VALUES),
+         (2, wait_in_vain_until_a_moment, {"plain", "reader", "writer", "holder", "guest", *VALUES}), (1, note_a_group, {"zero"}),
+         (2, line_up, UNITS), (2, fill_a_queue, VALUES), (2, line_up_receivers, VALUES), (1, hang_up_a_queue, VALUES),
+         (3, grant_by_a_stranger, VALUES),
          (2, grant_at_a_point, UNITS | TAGS), (1, grant_at_a_point, UNITS), (1, wake_in_vain, UNITS | TAGS), (2, move_to_a_space, TAGS),
          (1, raise_a_level, {"plain", "reader"}), (1, wake_at_a_point, {"plain", "reader"})]
 

@@ -1,8 +1,8 @@
 """What a scene begins with: its kernel, its objects, and processes with roles at them."""
 
 # The kinds of objects, each with how often a scene has one.
-KINDS_OF_OBJECTS = {"pipe": 7, "stream": 6, "sema": 7, "space": 5, "share": 1, "family": 4, "plain": 3, "clock": 2}
-ROLES = ["plain", "reader", "writer", "holder", "guest", "sharer", "reader back", "writer back"]
+KINDS_OF_OBJECTS = {"pipe": 7, "stream": 6, "sema": 7, "space": 5, "queue": 8, "share": 1, "family": 4, "plain": 3, "clock": 2}
+ROLES = ["plain", "reader", "writer", "holder", "guest", "sharer", "sender", "receiver", "reader back", "writer back"]
 
 
 class Opening:
@@ -89,6 +89,14 @@ class Opening:
         self.fork("guest", number, count=count)
         if self.dice.random() < 0.2:
             self.fork("guest", self.add("space", f"new_group {number}", seats), count=count)
+
+    def add_queue(self):
+        count = self.dice.choice([2, 3, 3, 4, 4])
+        handles = count + self.dice.choice([0, 0, 1, 1, 2])
+        number = self.add("queue", f"queue {self.dice.choice([1, 1, 2, 2, 3])} {handles}", handles)
+        senders = self.dice.randint(1, count - 1)
+        self.fork("sender", number, count=senders)
+        self.fork("receiver", number, count=count - senders)
 
     def add_family(self):
         """A guest alone in a space, and room for its children and for spaces of theirs."""

@@ -14,11 +14,14 @@ SEMA = ["kernel 4 4", "sema {units} 2", *["0 fork holder"] * 2, "0 fork plain", 
 SPACE = ["kernel 4 4", "space 2", *["0 fork guest"] * 2, "0 fork plain", "clock 4", "1 clock"]
 FAMILY = ["kernel 4 4", "space 2", "0 fork guest", "1 rfork proc"]
 SHARED = ["kernel 5 9", "pipe 1 1", "share 2", *["0 fork sharer"] * 2, "0 fork writer"]
+SENDER = ["kernel 5 4", "queue 1 3", "0 fork sender", "0 fork receiver", "0 fork plain", "clock 4", "1 clock", "2 clock"]
+RECEIVER = [*SENDER[:2], "0 fork receiver", "0 fork sender", *SENDER[4:]]
 # One process in all roles, and the waits of each.
-SEVERAL = ["kernel 2 19", *["{mode} 1 1"] * 3, "sema 0 2", "space 2", "share 2 3", "0 fork reader", "1 gets writer 2", "1 gets holder",
-           "1 gets guest", "1 gets sharer", "clock 4", "1 clock"]
+SEVERAL = ["kernel 2 23", *["{mode} 1 1"] * 3, "sema 0 2", "space 2", "share 2 3", *["queue 1 2"] * 2, "0 fork reader", "1 gets writer 2",
+           "1 gets holder", "1 gets guest", "1 gets sharer", "1 gets sender", "1 gets receiver 2", "clock 4", "1 clock"]
 WAITS = ["read 3", "read 3 reader", "read_within 100 50 3", "next_piece 3", "write x", "write_within 100 50 x", "write_long x", "acquire",
-         "acquire_within 100 50", "rendezvous 7 5", "rendezvous_within 100 50 7 5", "sleep 18 0", "sleep_within 100 50 18 0"]
+         "acquire_within 100 50", "rendezvous 7 5", "rendezvous_within 100 50 7 5", "send 7", "send_within 100 50 7", "receive",
+         "receive_within 100 50", "sleep 22 0", "sleep_within 100 50 22 0"]
 ANYBODY = ["wakeup 0 1", "tick 100", "note 0 alarm", "notes", "put_back hangup", "sleep 8 0", "sleep_within 100 50 8 0"]
 ZERO = ["kernel 2 4", "0 fork plain", "clock 4", "1 clock"]
 SEEN = ["rendez", "note 0 alarm", "notes"]
@@ -29,6 +32,10 @@ READ_STATES = [[], ["2 write abc"], ["2 write abc", "1 read 1"], ["2 write -"], 
 WRITE_STATES = [[], ["1 write abc"], ["1 write abc", "2 read 1"], ["2 hangup"], ["1 write abc", "3 sleep 1 0 &"]]
 UNITS = ["acquire", "try_acquire", "acquire_within 100 50", "release 1", "release 2147483647", *SEEN]
 MEETS = ["rendezvous 7 5", "rendezvous_within 100 50 7 5", "rendezvous_word 7 5", *SEEN]
+SENDS = ["send 7", "send_within 100 50 7", "try_send 7", "hangup", *SEEN]
+RECEIVES = ["receive", "receive_within 100 50", "try_receive", "hangup", *SEEN]
+SEND_STATES = [[], ["1 send 5"], ["2 hangup"], ["1 send 5", "2 hangup"], ["1 send 5", "3 sleep 0 0 &"]]
+RECEIVE_STATES = [[], ["2 send 5"], ["2 hangup"], ["2 send 5", "1 hangup"], ["3 sleep 1 0 &"]]
 MODES = [("a pipe", {"mode": "pipe"}), ("a stream", {"mode": "stream"})]
 
 
@@ -40,13 +47,15 @@ def rows():
         yield mode, names, WRITER, WRITE_STATES, WRITES
         yield mode, names, PIPE, [[]], anybody
         yield mode, names, WRITER, [[]], anybody
-        yield f"several roles, {mode}", names, SEVERAL, [["1 write y"]], WAITS
+        yield f"several roles, {mode}", names, SEVERAL, [["1 write y", "1 send 5"]], WAITS
     yield "alone", {}, PLAIN, [[], ["2 wakeup 0 1"], ["2 sleep 0 0 &"]], anybody
     yield "process 0", {}, ZERO, [[], ["1 sleep 0 0 &"]], [*ANYBODY[:5], "notepg 0 hangup", "rendez", "row 2", "pids_left", "rendez_left"]
     for units in "0", "1":
         yield "a semaphore", {"units": units}, SEMA, [[], ["3 sleep 0 0 &"]], UNITS
     yield "a space", {}, SPACE, [[], ["2 rendezvous 7 9 &"], ["3 sleep 0 0 &"]], MEETS
     yield "a family", {}, FAMILY, [[], ["2 rendezvous 7 9 &"]], ["rendezvous 7 5", "rfork noteg", "rfork rend", *SEEN]
+    yield "a sender", {}, SENDER, SEND_STATES, SENDS
+    yield "a receiver", {}, RECEIVER, RECEIVE_STATES, RECEIVES
     yield "turns", {}, SHARED, [[], ["3 write abc"], ["2 read 3 &"], ["3 hangup"]], ["read 3", "read 0"]
 
 

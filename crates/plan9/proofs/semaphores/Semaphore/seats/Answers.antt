@@ -1,65 +1,30 @@
--- one seat more is given; or the last can give none, or is the last of them
-use Rattle.std.proofs.Common.{arith, inr, subst, sym}
-use Rattle.plan9.proofs.ChainLemmas.{chain_and_one, one_longer, told_as}
-use Rattle.plan9.specs.Semaphores.{GivesSeat, WhyNoSeats}
+-- the first seat, and all others from it on
+use Rattle.std.proofs.Common.{None, ◌≡◌, subst}
+use Rattle.plan9.specs.Chains.{MayHave, WhyNoRoom}
+use Rattle.plan9.specs.Semaphores.{GivesSeat, IsFirst, KnowsNoSeat, WhyNoSeats}
+use Rattle.plan9.proofs.ChainLemmas.{many_of, no_room, runs_out_of, told_as}
 use Rattle.plan9.proofs.semaphores.Semaphore.seats.Goals as goal
-
-pub splitting-preserved : goal.splitting-preserved
-splitting-preserved g c =
-    let held = c.splitting.invariant in
-    let items = c.push_reserved.ensures.items in
-    let counted = held.counted in
-    let below = c.splitting-test.true in
-    let room = held.room in
-    let same_room = c.push_reserved.ensures.capacity in
-    let longer = one_longer c.splitting.seats.items c.push_reserved.new.self.items c.replace.result
-    items in
-    record {
-      counted = omega (arith, counted, longer);
-      limit = omega (arith, below);
-      count = held.count;
-      room = omega (arith, room, same_room);
-      chain = chain_and_one GivesSeat c.splitting.seats.items c.push_reserved.new.self.items
-          c.in_ok-last.last c.splitting.last c.split.new.self c.replace.result c.in_ok-next.next
-          c.replace.new.dest items c.replace.ensures.value c.replace.ensures.after held.chain
-          (record { same = c.split.ensures.same; further = c.in_ok-next.ensures.further });
-    }
 
 pub returns-clause-seats : goal.returns-clause-seats
 returns-clause-seats g c =
-    let held = c.splitting.invariant in
-    let counted = held.counted in
-    let limit = held.limit in
-    let above = c.splitting-test.false in
-    let longer = one_longer c.splitting.seats.items c.push_reserved-2.new.self.items
-    c.splitting.last c.push_reserved-2.ensures.items in
-    record {
-      count_is = omega (arith, counted, limit, above, longer);
-      first = c.in_ok-last.last;
-      first_is = c.in_ok-last.ensures.first;
-      givers = c.splitting.seats.items;
-      last = c.splitting.last;
-      chain = held.chain;
-      seats_are = c.push_reserved-2.ensures.items;
-    }
+    many_of GivesSeat (IsFirst c.args.self.now) c.in_ok-first.first
+    c.in_ok-first.ensures.first (λ list. list.items) c.args.count c.split_into.result
+    c.split_into.ensures.many
 
-pub returns-in_err-next-clause-fault : goal.returns-in_err-next-clause-fault
-returns-in_err-next-clause-fault g c =
-    let counted = c.splitting.invariant.counted in
-    let below = c.splitting-test.true in
-    told_as (WhyNoSeats c.args.self.now c.args.count) c.in_err-next.field-0.0
-    c.from_residual-in_err-next.result c.from_residual-in_err-next.ensures.1
-    (subst (WhyNoSeats c.args.self.now c.args.count) (sym c.in_err-next.ensures.fault)
-    (inr (
-      c.in_ok-seats.ensures.may,
-      inr (record {
-        first = c.in_ok-last.last;
-        first_is = c.in_ok-last.ensures.first;
-        givers = c.splitting.seats.items;
-        before = c.splitting.last;
-        after = c.split.new.self;
-        chain = c.splitting.invariant.chain;
-        fewer = omega (arith, counted, below);
-        none = c.in_err-next.ensures.refused;
-      }),
-    )))
+pub returns-clause-fault : goal.returns-clause-fault
+returns-clause-fault g c =
+    runs_out_of GivesSeat (IsFirst c.args.self.now) c.in_ok-first.first
+    c.in_ok-first.ensures.first KnowsNoSeat (c.args.self.now.spare ≡ None)
+    c.args.self.now.sema.procs c.args.count c.split_into.result
+    (subst (λ procs. MayHave procs c.args.count) c.procs.ensures c.in_ok-seats.ensures.may)
+    c.split_into.ensures.fault c.split_into.ensures.out
+
+pub returns-in_err-seats-clause-fault : goal.returns-in_err-seats-clause-fault
+returns-in_err-seats-clause-fault g c =
+    told_as (WhyNoSeats c.args.self.now c.args.count) c.in_err-seats.field-0.0
+    c.from_residual.result c.from_residual.ensures.1
+    (no_room GivesSeat (IsFirst c.args.self.now) KnowsNoSeat
+    (c.args.self.now.spare ≡ None) c.args.self.now.sema.procs c.args.count
+    c.in_err-seats.field-0.0
+    (subst (λ procs. WhyNoRoom procs c.args.count c.in_err-seats.field-0.0) c.procs.ensures
+    c.in_err-seats.ensures.fault))

@@ -1,64 +1,30 @@
--- one member more is given; or the last can give none, or is the last of them
-use Rattle.std.proofs.Common.{arith, inr, subst, sym}
-use Rattle.plan9.proofs.ChainLemmas.{chain_and_one, one_longer, told_as}
-use Rattle.plan9.specs.Memberships.{GivesAnother, WhyNoMembers}
+-- the first member, and all others from it on
+use Rattle.std.proofs.Common.{None, ◌≡◌, subst}
+use Rattle.plan9.specs.Chains.{MayHave, WhyNoRoom}
+use Rattle.plan9.specs.Memberships.{GivesAnother, IsFirstOf, KnowsNoMember, WhyNoMembers}
+use Rattle.plan9.proofs.ChainLemmas.{many_of, no_room, runs_out_of, told_as}
 use Rattle.plan9.proofs.spaces.Space.members.Goals as goal
-
-pub splitting-preserved : goal.splitting-preserved
-splitting-preserved g c =
-    let held = c.splitting.invariant in
-    let items = c.push_reserved.ensures.items in
-    let counted = held.counted in
-    let below = c.splitting-test.true in
-    let room = held.room in
-    let same_room = c.push_reserved.ensures.capacity in
-    let longer = one_longer c.splitting.members.items c.push_reserved.new.self.items
-    c.replace.result items in
-    record {
-      counted = omega (arith, counted, longer);
-      limit = omega (arith, below);
-      count = held.count;
-      room = omega (arith, room, same_room);
-      chain = chain_and_one GivesAnother c.splitting.members.items c.push_reserved.new.self.items
-          c.in_ok-last.last c.splitting.last c.split.new.self c.replace.result c.in_ok-next.next
-          c.replace.new.dest items c.replace.ensures.value c.replace.ensures.after held.chain
-          (record { same = c.split.ensures.same; further = c.in_ok-next.ensures.further });
-    }
 
 pub returns-clause-members : goal.returns-clause-members
 returns-clause-members g c =
-    let counted = c.splitting.invariant.counted in
-    let limit = c.splitting.invariant.limit in
-    let above = c.splitting-test.false in
-    let longer = one_longer c.splitting.members.items c.push_reserved-2.new.self.items
-    c.splitting.last c.push_reserved-2.ensures.items in
-    record {
-      count_is = omega (arith, counted, limit, above, longer);
-      first = c.in_ok-last.last;
-      first_is = c.in_ok-last.ensures.first;
-      givers = c.splitting.members.items;
-      last = c.splitting.last;
-      chain = c.splitting.invariant.chain;
-      seats_are = c.push_reserved-2.ensures.items;
-    }
+    many_of GivesAnother (IsFirstOf c.args.self.now) c.in_ok-first.first
+    c.in_ok-first.ensures.first (λ list. list.items) c.args.count c.split_into.result
+    c.split_into.ensures.many
 
-pub returns-in_err-next-clause-fault : goal.returns-in_err-next-clause-fault
-returns-in_err-next-clause-fault g c =
-    let counted = c.splitting.invariant.counted in
-    let below = c.splitting-test.true in
-    told_as (WhyNoMembers c.args.self.now c.args.count) c.in_err-next.field-0.0
-    c.from_residual-in_err-next.result c.from_residual-in_err-next.ensures.1
-    (subst (WhyNoMembers c.args.self.now c.args.count) (sym c.in_err-next.ensures.fault)
-    (inr (
-      c.in_ok-members.ensures.may,
-      inr (record {
-        first = c.in_ok-last.last;
-        first_is = c.in_ok-last.ensures.first;
-        givers = c.splitting.members.items;
-        before = c.splitting.last;
-        after = c.split.new.self;
-        chain = c.splitting.invariant.chain;
-        fewer = omega (arith, counted, below);
-        none = c.in_err-next.ensures.refused;
-      }),
-    )))
+pub returns-clause-fault : goal.returns-clause-fault
+returns-clause-fault g c =
+    runs_out_of GivesAnother (IsFirstOf c.args.self.now) c.in_ok-first.first
+    c.in_ok-first.ensures.first KnowsNoMember (c.args.self.now.spare ≡ None)
+    c.args.self.now.space.procs c.args.count c.split_into.result
+    (subst (λ procs. MayHave procs c.args.count) c.procs.ensures c.in_ok-members.ensures.may)
+    c.split_into.ensures.fault c.split_into.ensures.out
+
+pub returns-in_err-members-clause-fault : goal.returns-in_err-members-clause-fault
+returns-in_err-members-clause-fault g c =
+    told_as (WhyNoMembers c.args.self.now c.args.count) c.in_err-members.field-0.0
+    c.from_residual.result c.from_residual.ensures.1
+    (no_room GivesAnother (IsFirstOf c.args.self.now) KnowsNoMember
+    (c.args.self.now.spare ≡ None) c.args.self.now.space.procs c.args.count
+    c.in_err-members.field-0.0
+    (subst (λ procs. WhyNoRoom procs c.args.count c.in_err-members.field-0.0) c.procs.ensures
+    c.in_err-members.ensures.fault))

@@ -1,0 +1,12 @@
+-- so many handles were woken
+use Rattle.std.proofs.Common.{◌≡◌, ◌≤◌}
+use Rattle.messages.specs.Waking.{WakesAll}
+use Rattle.messages.proofs.channel.Channel.wake_all.Given as goal
+
+abbrev pub invariant-waking : goal.invariant-waking
+invariant-waking g l =
+    record {
+      words : l.proc.words ≡ l.initial.proc.words;
+      within : l.seat ≤ l.self.handles;
+      woken : WakesAll l.self l.seat l.number l.initial.proc.process l.proc.process;
+    }

@@ -1,0 +1,20 @@
+-- No list grows.
+use Rattle.std.proofs.Common.{arith}
+use Rattle.messages.proofs.LineLemmas.{length_most}
+use Rattle.messages.proofs.message_object.MessageObject.sender_leaves.Goals as goal
+
+pub invariant_of-self : goal.invariant_of-self
+invariant_of-self g c =
+    let kept = c.self.invariant in
+    let room = kept.room in
+    let numbers = kept.numbers in
+    let waiting = length_most c.self.inside.senders.waiting c.args.seat in
+    let granted = length_most c.self.inside.senders.granted c.args.seat in
+    record {
+      room = rw c.leave.ensures (omega (arith, room, granted));
+      numbers = rw c.leave.ensures (omega (arith, numbers, waiting));
+      most = kept.most;
+      deque = kept.deque;
+      senders = rw c.leave.ensures kept.senders;
+      receivers = kept.receivers;
+    }

@@ -1,0 +1,14 @@
+pub mod Asking
+pub mod Handles
+pub mod HangingUp
+pub mod History
+pub mod Known
+pub mod Lines
+pub mod MessageLaws
+pub mod MessageObject
+pub mod Opening
+pub mod Receiving
+pub mod Sending
+pub mod Soundness
+pub mod WakeLaws
+pub mod Waking

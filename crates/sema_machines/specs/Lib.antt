@@ -1,0 +1,4 @@
+pub mod CallMachines
+pub mod Holds
+pub mod SemaEnds
+pub mod SemaRuns

@@ -1,0 +1,38 @@
+//! What the contracts of a semaphore's calls say, by machines. Each law is a function that does
+//! nothing: its contract is the law.
+ghost use Rattle.sema_machines.specs.CallMachines.{
+  AcquiresArePlays,
+  ReleasesArePlays,
+  TriesArePlays,
+};
+ghost use Rattle.sema_machines.specs.SemaEnds.{SemaphoreEndsHold, UnitsAreDue};
+ghost use Rattle.sema_machines.specs.SemaRuns.{AcquiresInRuns, ReleasesInRuns, TriesInRuns};
+
+use semaphore::laws::{states_are_sound, who_is_granted_is_released};
+
+/// A call is as its contract says if and only if its machine plays so.
+pub fn calls_are_plays()
+    ensures acquires { AcquiresArePlays }
+    ensures tries { TriesArePlays }
+    ensures releases { ReleasesArePlays }
+{}
+
+/// In each run of a semaphore's calls, whatever its schedule, a call that is over is as its
+/// contract says.
+pub fn calls_in_runs_are_as_promised()
+    ensures acquires { AcquiresInRuns }
+    ensures tries { TriesInRuns }
+    ensures releases { ReleasesInRuns }
+{}
+
+/// Where no call of a semaphore goes on, nobody waits who was granted a unit. So if each run at the
+/// grain of calls that comes to where each call is over or waits without a unit has all calls over,
+/// no run of the calls deadlocks. Such runs need not be looked at in which a sleep is refused, or a
+/// wait ends well before its unit is granted.
+pub fn units_are_due()
+    ensures due { UnitsAreDue }
+    ensures ends { SemaphoreEndsHold }
+{
+    who_is_granted_is_released();
+    states_are_sound();
+}

@@ -1,0 +1,3 @@
+pub mod GateLemmas
+pub mod PartLemmas
+pub mod TeamLemmas
