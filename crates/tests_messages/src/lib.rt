@@ -1,7 +1,8 @@
-//! Tests of queues of values by their public calls, so that the crate is not proved once more for
-//! them. Read `scenes`, which opens kernels and queues for all others; `crowds`, senders and
-//! receivers that are noted and try; `hangups`, which come while others send or wait; `refusals`,
-//! and what each call answers alone; `deadlines`; and `pages`, with the manual page's example.
+//! Tests of queues of values and of teams by their public calls, so that their crates are not
+//! proved once more for them. Read `scenes`, which opens kernels and queues for those after it;
+//! `crowds`, senders and receivers that are noted and try; `hangups`, which come while others send
+//! or wait; `refusals`, and what each call answers alone; `deadlines`; `pages`, with the manual
+//! page's example; and `teams`.
 #![tactic(auto)]
 
 #[cfg(test)]
@@ -16,3 +17,5 @@ mod pages;
 mod refusals;
 #[cfg(test)]
 mod scenes;
+#[cfg(test)]
+mod teams;

@@ -18,6 +18,3 @@ mod team;
 
 pub use job::{Ended, Job, Refused, Told, Worker};
 pub use team::Team;
-
-#[cfg(test)]
-mod tests;

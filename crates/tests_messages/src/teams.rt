@@ -1,7 +1,6 @@
 //! Teams on threads. Every run ends by itself.
 ghost use Rattle.sleep_wakeup.specs.Starts.{IsStartOf};
 
-use crate::{Ended, Job, Refused, Team, Told, Worker};
 use sleep_wakeup::{Kernel, Opened, Proc, Roster, Started};
 use std::alloc::Global;
 use std::process::Abort;
@@ -10,6 +9,7 @@ use std::sync::atomic::AtomicU64;
 use std::sync::atomic::Ordering::SeqCst;
 use std::thread::Threads;
 use sync_base::{Fault, Flags, Note, NoteSet, Pid, RendezId};
+use together::{Ended, Job, Refused, Team, Told, Worker};
 
 /// What a job of the tests does.
 #[derive(Drop)]
