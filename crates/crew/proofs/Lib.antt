@@ -1,4 +1,5 @@
 mod CrewLemmas
+mod HangLemmas
 mod WorkedLimits
 mod WorkedRuns
 mod WritingLemmas

@@ -1,4 +1,5 @@
 pub mod Message
 pub mod Tally
+pub mod Tasks
 pub mod Threads
 pub mod Writing
