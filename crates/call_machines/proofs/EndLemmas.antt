@@ -1,5 +1,5 @@
 -- A run of the calls that has stopped is a position that is stuck.
-use Rattle.std.proofs.Common.{◌≡◌, ◌⊎◌, inl, inr, ◌<◌, ℕ, List, [], ◌∷◌, sym, subst}
+use Rattle.std.proofs.Common.{◌⊎◌, ◌<◌, List, [], ◌∷◌, sym, subst}
 use Rattle.std.specs.List.{AllByRecursion}
 use Rattle.sleep_core.specs.State.{State, phase_of}
 use Rattle.call_machines.specs.Ends.{EndsHold, HasEnded, IsParked, IsStuck}

@@ -1,15 +1,14 @@
 -- A run of the calls that has stopped is a coarse position in which nobody goes on.
-use Rattle.std.proofs.Common.{◌≡◌, ◌≢◌, ◌⊎◌, inl, inr, ◌<◌, ◌==◌, ℕ, zero, suc, Bool, true, false}
+use Rattle.std.proofs.Common.{◌≡◌, ◌⊎◌, inl, inr, ◌<◌, ◌==◌, ℕ, zero, suc, Bool, true, false}
 use Rattle.std.proofs.Common.{nat_lt, if◌then◌else◌, Some, List, [], ◌∷◌, length, refl, sym, ◌∙◌}
 use Rattle.std.proofs.Common.{ap, subst, arith}
-use Rattle.std.specs.Prelude.{⊤, slice_index_or, slice_index, ◌≤◌}
+use Rattle.std.specs.Prelude.{slice_index_or, ◌≤◌}
 use Rattle.sync_base.specs.declared.ids.RendezId.{RendezId}
 use Rattle.sync_base.specs.declared.limits.TheConstants.{TOP_LEVEL}
-use Rattle.sync_base.specs.declared.note.NoteSet.{NoteSet}
 use Rattle.sleep_core.specs.declared.answer.Answer.{Answer}
 use Rattle.sleep_core.specs.declared.answer.Answer.TheVariants as answer
 use Rattle.sleep_core.specs.declared.event.Event.{Event}
-use Rattle.sleep_core.specs.declared.event.Event.TheVariants.{Post, Test, Look, Withdraw, Clear}
+use Rattle.sleep_core.specs.declared.event.Event.TheVariants.{Post, Test, Withdraw, Clear}
 use Rattle.sleep_core.specs.declared.event.Event.TheVariants.{Raise, Take, Mark, Note}
 use Rattle.sleep_core.specs.declared.phase.Phase.{Phase}
 use Rattle.sleep_core.specs.declared.phase.Phase.TheVariants as phase
@@ -20,7 +19,7 @@ use Rattle.sleep_core.specs.SleepPlaces.Place.{IsHeldBy, IsMarked, IsOut, IsPost
 use Rattle.sleep_core.specs.State.{State, IsPhaseIn, flags_of, level_of, nobody, phase_of}
 use Rattle.sleep_core.specs.State.{posted_as, posted_of, returned_of, sleeper_in}
 use Rattle.sleep_core.specs.Step.{answer_in, answer_to, has_cell, is_parked, word_at}
-use Rattle.sleep_core.specs.Table.{cell_of, ending_of, has_notes, pid_of, reply}
+use Rattle.sleep_core.specs.Table.{cell_of, has_notes, pid_of, reply}
 use Rattle.sleep_core.proofs.SleepPlaceLemmas.{sleepers_are_in_one_place, words_agree_in_runs}
 use Rattle.schedules.specs.Program.{event_in, proc}
 use Rattle.schedules.specs.declared.call.Call.TheVariants as core

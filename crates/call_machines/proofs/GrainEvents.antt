@@ -1,13 +1,13 @@
 -- Each event of a process by what its machine does: it is no move, or it is the move of its grain.
 use Rattle.std.proofs.Common.{◌≡◌, ◌≢◌, ◌⊎◌, inl, inr, ◌<◌, ◌==◌, ℕ, Bool, true, false, length}
-use Rattle.std.proofs.Common.{nat_lt, if◌then◌else◌, Option, Some, None, refl, sym, ◌∙◌, ap, subst}
+use Rattle.std.proofs.Common.{nat_lt, if◌then◌else◌, Some, refl, sym, ◌∙◌, ap, subst}
 use Rattle.std.proofs.Common.{arith}
 use Rattle.std.specs.Prelude.{⊤, List, max, slice_index, slice_set, ◌≤◌}
 use Rattle.sync_base.specs.declared.ids.Pid.{Pid}
 use Rattle.sync_base.specs.declared.ids.RendezId.{RendezId}
 use Rattle.sync_base.specs.declared.limits.TheConstants.{TOP_LEVEL}
 use Rattle.sync_base.specs.declared.note.NoteSet.{NoteSet}
-use Rattle.sync_base.specs.NoteSet.{joined, no_notes}
+use Rattle.sync_base.specs.NoteSet.{no_notes}
 use Rattle.sleep_core.specs.declared.answer.Answer.{Answer}
 use Rattle.sleep_core.specs.declared.answer.Answer.TheVariants as answer
 use Rattle.sleep_core.specs.declared.event.Event.{Event}
@@ -18,7 +18,7 @@ use Rattle.sleep_core.specs.declared.phase.Phase.TheVariants as phase
 use Rattle.sleep_core.specs.State.{State, flags_of, no_flags, nobody, phase_of, posted_of}
 use Rattle.sleep_core.specs.State.{returned_of}
 use Rattle.sleep_core.specs.Step.{answer_in, answer_to, world_after}
-use Rattle.sleep_core.specs.Table.{ending_of, has_notes, phase_after}
+use Rattle.sleep_core.specs.Table.{has_notes, phase_after}
 use Rattle.schedules.specs.Position.{is_idle}
 use Rattle.schedules.specs.Program.{event_in, proc}
 use Rattle.schedules.specs.declared.call.Call.TheVariants as core

@@ -1,9 +1,9 @@
 -- Each run of the calls is a run at the grain of calls.
 use Rattle.std.proofs.Common.{◌≡◌, ◌≢◌, ◌⊎◌, inl, inr, ◌<◌, ℕ, Bool, true, false, eqb, length, zero}
 use Rattle.std.proofs.Common.{suc, arith}
-use Rattle.std.proofs.Common.{if◌then◌else◌, Option, Some, None, List, [], ◌∷◌, refl, sym, ◌∙◌}
+use Rattle.std.proofs.Common.{List, [], ◌∷◌, refl, sym, ◌∙◌}
 use Rattle.std.proofs.Common.{ap, subst}
-use Rattle.std.specs.Prelude.{replicate, slice_index, slice_set, slice_index_or, ◌≤◌}
+use Rattle.std.specs.Prelude.{replicate, slice_index, ◌≤◌}
 use Rattle.std.proofs.lemmas.Bool.Decides.{eqb_tells}
 use Rattle.std.proofs.lemmas.List.{get_or-set_same, get_or-set_other, length-set}
 use Rattle.sync_base.specs.declared.note.NoteSet.{NoteSet}
@@ -16,12 +16,9 @@ use Rattle.sleep_core.specs.declared.phase.Phase.{Phase}
 use Rattle.sleep_core.specs.declared.phase.Phase.TheVariants as phase
 use Rattle.sleep_core.specs.declared.phase.ProcFlags.{ProcFlags}
 use Rattle.sleep_core.specs.Laws.{IsSoundIn}
-use Rattle.sleep_core.specs.Runs.{IsMadeBy, IsRun, world_of}
-use Rattle.sleep_core.specs.State.{State, flags_of, no_flags, opening, phase_of, returned_of}
-use Rattle.sleep_core.specs.Step.{answer_to, world_after}
+use Rattle.sleep_core.specs.State.{State, flags_of, no_flags, returned_of}
 use Rattle.sleep_core.specs.Table.{phase_after}
 use Rattle.sleep_core.proofs.CoreRuns.{get_or-replicate_same}
-use Rattle.sleep_core.proofs.NoLostWakeup.{runs_are_sound}
 use Rattle.schedules.specs.Position.{is_idle}
 use Rattle.schedules.proofs.MoveLemmas.{idle_is}
 use Rattle.call_machines.specs.Grain.{AreMoves, Coarse, Grain, IsCoarseOf, May, Move, RunsAreMoves}

@@ -1,3 +1,4 @@
+pub mod CoarseLemmas
 pub mod EndLemmas
 pub mod GrainEndLemmas
 pub mod GrainEvents
@@ -6,6 +7,7 @@ pub mod GrainNotes
 pub mod RunLemmas
 pub mod ScheduleLemmas
 pub mod SleepEvents
+pub mod StrictLemmas
 pub mod UnrefusedLemmas
 pub mod WaitTableLemmas
 pub mod WholeCallLemmas

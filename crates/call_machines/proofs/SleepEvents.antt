@@ -16,7 +16,7 @@ use Rattle.sleep_core.specs.declared.event.Event.TheVariants.{Withdraw}
 use Rattle.sleep_core.specs.declared.phase.Phase.{Phase}
 use Rattle.sleep_core.specs.declared.phase.Phase.TheVariants as phase
 use Rattle.sleep_core.specs.Runs.{Entry}
-use Rattle.sleep_core.specs.State.{State, IsPhaseIn, IsWhole, flags_of, level_of, nobody, phase_of}
+use Rattle.sleep_core.specs.State.{State, IsPhaseIn, flags_of, level_of, nobody, phase_of}
 use Rattle.sleep_core.specs.State.{posted_as, posted_of}
 use Rattle.sleep_core.specs.Step.{answer_in, answer_to, has_cell, word_at}
 use Rattle.sleep_core.specs.Table.{cell_of, ending_of, has_notes, phase_after, pid_of, reply}

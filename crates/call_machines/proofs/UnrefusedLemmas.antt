@@ -1,8 +1,7 @@
 -- No sleep is refused where each process has its own Rendez and no number is the top.
-use Rattle.std.proofs.Common.{◌≡◌, ◌≢◌, ◌⊎◌, inl, inr, ◌<◌, ◌==◌, ℕ, zero, suc, Bool, true, false}
-use Rattle.std.proofs.Common.{nat_lt, if◌then◌else◌, Some, List, [], ◌∷◌, length, refl, sym, ◌∙◌}
+use Rattle.std.proofs.Common.{◌≡◌, ◌≢◌, inl, inr, ◌<◌, ◌==◌, ℕ, zero, suc, Bool, true, false}
+use Rattle.std.proofs.Common.{if◌then◌else◌, Some, List, [], ◌∷◌, length, refl, sym, ◌∙◌}
 use Rattle.std.proofs.Common.{ap, subst, arith}
-use Rattle.std.specs.Prelude.{⊤}
 use Rattle.std.proofs.lemmas.Bool.Decides.{nat_tests}
 use Rattle.sync_base.specs.declared.ids.RendezId.{RendezId}
 use Rattle.sync_base.specs.declared.limits.TheConstants.{TOP_LEVEL}
@@ -13,9 +12,8 @@ use Rattle.sleep_core.specs.declared.event.Event.{Event}
 use Rattle.sleep_core.specs.declared.event.Event.TheVariants.{Post, Test, Look, Withdraw, Clear}
 use Rattle.sleep_core.specs.declared.phase.Phase.{Phase}
 use Rattle.sleep_core.specs.declared.phase.Phase.TheVariants as phase
-use Rattle.sleep_core.specs.Laws.{IsSoundIn}
 use Rattle.sleep_core.specs.SleepPlaces.{MayBePosted, WordsAgree}
-use Rattle.sleep_core.specs.State.{State, flags_of, nobody, phase_of, posted_as, posted_of}
+use Rattle.sleep_core.specs.State.{State, flags_of, nobody, phase_of, posted_of}
 use Rattle.sleep_core.specs.Step.{answer_to}
 use Rattle.sleep_core.specs.Table.{has_notes, phase_after}
 use Rattle.sleep_core.proofs.SleepPlaceLemmas.{words_agree_in_runs}

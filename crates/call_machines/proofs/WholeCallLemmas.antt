@@ -1,9 +1,8 @@
 -- The own steps of a process in a run are a play of its machine, whole sleep by whole sleep, as the
 -- player on threads has it in its contract.
 use Rattle.std.proofs.Common.{◌≡◌, ◌≢◌, ◌⊎◌, inl, inr, ◌<◌, ℕ, zero, suc, Bool, true, false, eqb}
-use Rattle.std.proofs.Common.{if◌then◌else◌, Option, Some, None, List, [], ◌∷◌, ◌++◌, length}
+use Rattle.std.proofs.Common.{Some, List, [], ◌∷◌, ◌++◌, length}
 use Rattle.std.proofs.Common.{refl, sym, ◌∙◌, ap, subst, Result, Ok, Err, arith}
-use Rattle.std.specs.Prelude.{⊤}
 use Rattle.std.proofs.lemmas.Bool.Decides.{eqb_tells, nat_tests}
 use Rattle.sync_base.specs.declared.fault.Fault.{Fault}
 use Rattle.sync_base.specs.declared.fault.Fault.TheVariants as fault
@@ -16,16 +15,14 @@ use Rattle.sleep_core.specs.declared.event.Event.{Event}
 use Rattle.sleep_core.specs.declared.event.Event.TheVariants.{Note}
 use Rattle.sleep_core.specs.declared.phase.Phase.{Phase}
 use Rattle.sleep_core.specs.declared.phase.Phase.TheVariants as phase
-use Rattle.sleep_core.specs.Laws.{IsSoundIn}
-use Rattle.sleep_core.specs.Runs.{Entry, IsMadeBy, IsRun, kept, own, phase_by, world_of}
-use Rattle.sleep_core.specs.State.{State, IsWhole, phase_of}
-use Rattle.sleep_core.specs.Step.{answer_to, world_after}
+use Rattle.sleep_core.specs.Runs.{Entry, IsRun, kept, own, phase_by}
+use Rattle.sleep_core.specs.State.{State, phase_of}
+use Rattle.sleep_core.specs.Step.{answer_to}
 use Rattle.sleep_core.specs.Table.{phase_after}
-use Rattle.sleep_core.proofs.NoLostWakeup.{runs_are_sound}
 use Rattle.sleep_core.proofs.OwnEvents.{phase_by-kept_own}
 use Rattle.rendez_words.specs.declared.words.Words.{Words}
 use Rattle.rendez_words.specs.Process.{Process}
-use Rattle.rendez_words.specs.Words.{IsProcessOf, procs_of as procs_in, rendez_of, table_of}
+use Rattle.rendez_words.specs.Words.{IsProcessOf, rendez_of, table_of}
 use Rattle.sleep_wakeup.specs.Actions.{WakesOne}
 use Rattle.schedules.specs.declared.call.Call.TheVariants as core
 use Rattle.schedules.specs.Position.{is_idle}

@@ -5,5 +5,6 @@ pub mod Machine
 pub mod Plays
 pub mod Runs
 pub mod Schedules
+pub mod StrictRuns
 pub mod WaitTables
 pub mod WholeCalls

@@ -11,6 +11,7 @@ ghost use Rattle.call_machines.specs.GrainEnds.{
 };
 ghost use Rattle.call_machines.specs.Runs.{System};
 ghost use Rattle.call_machines.specs.Schedules.{RunsAreSchedules, SchedulesAreRuns};
+ghost use Rattle.call_machines.specs.StrictRuns.{StrictEndsHold};
 ghost use Rattle.call_machines.specs.WaitTables.{WaitTable, WaitsArePlays};
 ghost use Rattle.call_machines.specs.WholeCalls.{CallsArePlayed};
 
@@ -81,4 +82,11 @@ pub fn coarse_ends_hold<A, Q, R, O, T>()
 pub fn object_ends_hold<A, Q, R, O, T>()
     ensures { (system : System A Q R O T) → (goes : T → ℕ → Bool)
         → ObjectEndsHold system (λ object pid. goes object pid ≡ true) }
+{}
+
+/// Where besides each call that sleeps asks again, and in vain where it was woken too early, runs
+/// may be left out in which a wait ends well before the object lets its process go on.
+pub fn strict_ends_hold<A, Q, R, O, T>()
+    ensures { (system : System A Q R O T) → (goes : T → ℕ → Bool)
+        → StrictEndsHold system (λ object pid. goes object pid ≡ true) }
 {}

@@ -1,0 +1,66 @@
+-- One move at the grain of calls: what may come of what a machine does, and that no level falls.
+use Rattle.std.proofs.Common.{◌≡◌, ◌⊎◌, inl, inr, ◌≤◌, ℕ, List, length, refl, ap, arith}
+use Rattle.std.specs.Prelude.{⊤, max, slice_index, slice_set}
+use Rattle.std.proofs.lemmas.List.{length-set}
+use Rattle.sleep_core.proofs.ListLemmas.{get_or-set_cases}
+use Rattle.sync_base.specs.declared.note.NoteSet.{NoteSet}
+use Rattle.call_machines.specs.Grain.{Grain, May, levels_by}
+use Rattle.call_machines.specs.Grain.Grain.{Heard, Noted, Refused, Returned, Went, Woken}
+use Rattle.call_machines.specs.Machine.{Next}
+use Rattle.call_machines.specs.Runs.{System}
+
+module _ {At Request Reply Out Object : Type 0} (system : System At Request Reply Out Object)
+    (object : Object) (notes : NoteSet) where
+  -- what may come of what a machine does
+  abbrev pub ComesOf : Next Request Out → Grain Request Reply → Type 0
+  ComesOf (Next.Ask other) (Heard request reply) =
+      (other ≡ request) × (reply ≡ system.answer object request)
+  ComesOf (Next.Sleep number) Woken = ⊤
+  ComesOf (Next.Sleep number) (Noted set) = ⊤
+  ComesOf (Next.Sleep number) (Refused why) = ⊤
+  ComesOf (Next.Wake other level) Went = ⊤
+  ComesOf (Next.Return set) (Returned other) = ⊤
+  ComesOf does grain = ⊥
+
+  -- and nothing else may come of it
+  pub comes_of : (does : Next Request Out) (grain : Grain Request Reply)
+      → May system object notes does grain → ComesOf does grain
+  comes_of (Next.Ask other) (Heard request reply) may = (let is = may.0 in cc, may.1)
+  comes_of (Next.Sleep number) Woken may = tt
+  comes_of (Next.Sleep number) (Noted set) may = tt
+  comes_of (Next.Sleep number) (Refused why) may = tt
+  comes_of (Next.Wake other level) Went may = tt
+  comes_of (Next.Return set) (Returned other) may = tt
+  comes_of does (Heard request reply) may = absurd (let is = may.0 in cc)
+  comes_of does Woken may = absurd (let is = may.1 in cc)
+  comes_of does (Noted set) may = absurd (let is = may.1 in cc)
+  comes_of does (Refused why) may = absurd (let is = may.1 in cc)
+  comes_of does Went may = absurd (let is = may.2 in cc)
+  comes_of does (Returned set) may = absurd (let is = may in cc)
+
+module _ {Request Reply Out : Type 0} where
+  -- no move lowers a level
+  pub levels_rise : (levels : List ℕ) (does : Next Request Out) (grain : Grain Request Reply)
+      (at : ℕ) → slice_index levels at ≤ slice_index (levels_by levels does grain) at
+  levels_rise levels (Next.Wake to level) Went at =
+      by (get_or-set_cases levels to.0 (max (slice_index levels to.0) level) at 0)
+    where
+      by : ((at ≡ to.0) × (slice_index (slice_set levels to.0
+          (max (slice_index levels to.0) level)) at ≡ max (slice_index levels to.0) level))
+          ⊎ (slice_index (slice_set levels to.0 (max (slice_index levels to.0) level)) at
+          ≡ slice_index levels at)
+          → slice_index levels at
+          ≤ slice_index (slice_set levels to.0 (max (slice_index levels to.0) level)) at
+      by (inl here) =
+          let same = ap (slice_index levels) here.0 in
+          let is = here.1 in
+          omega (arith, same, is)
+      by (inr is) = omega (arith, is)
+  levels_rise levels does grain at = omega arith
+
+  -- and each Rendez keeps a level
+  pub levels_stay : (levels : List ℕ) (does : Next Request Out) (grain : Grain Request Reply)
+      → length (levels_by levels does grain) ≡ length levels
+  levels_stay levels (Next.Wake to level) Went =
+      length-set levels to.0 (max (slice_index levels to.0) level)
+  levels_stay levels does grain = refl

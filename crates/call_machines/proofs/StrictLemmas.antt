@@ -1,0 +1,451 @@
+-- Each run at the grain of calls has one that comes to the same and in which no wait ends well too
+-- early: who is woken too early asks in vain, and waits on.
+use Rattle.std.proofs.Common.{◌≡◌, ◌≢◌, ◌⊎◌, inl, inr, ◌<◌, ℕ, true, false, eqb, List}
+use Rattle.std.proofs.Common.{[], ◌∷◌, length, Ok, Err, refl, sym, ◌∙◌, ap, subst}
+use Rattle.std.proofs.lemmas.Bool.Decides.{eqb_tells}
+use Rattle.std.proofs.lemmas.List.{get_or-set_same, get_or-set_other, length-replicate, length-set}
+use Rattle.sync_base.specs.declared.fault.Fault.TheVariants as fault
+use Rattle.sync_base.specs.declared.note.NoteSet.{NoteSet}
+use Rattle.sync_base.specs.NoteSet.{no_notes}
+use Rattle.sleep_core.specs.Table.{has_notes}
+use Rattle.call_machines.specs.Ends.{HasEnded}
+use Rattle.call_machines.specs.Grain.{AreMoves, Coarse, Grain, May, Move, at_of, coarse_of}
+use Rattle.call_machines.specs.Grain.{moved, notes_by, notes_of, object_with, outcome_by}
+use Rattle.call_machines.specs.Grain.Grain.{Heard, Noted, Refused, Returned, Went, Woken}
+use Rattle.call_machines.specs.GrainEnds.{AreUnrefused, HaveEndedAt}
+use Rattle.call_machines.specs.GrainEnds.{IsCoarseStuck, IsObjectStuck, IsUnrefused, WaitsBy}
+use Rattle.call_machines.specs.GrainEnds.{WaitsOn}
+use Rattle.call_machines.specs.Machine.{Next, Outcome}
+use Rattle.call_machines.specs.Runs.{System, procs}
+use Rattle.call_machines.specs.StrictRuns.{AreOneWait, AreStrict, AsksAgain, AsksInVain}
+use Rattle.call_machines.specs.StrictRuns.{EndsInTime, NeverStrictlyStuck, StrictEndsHold}
+use Rattle.call_machines.specs.StrictRuns.{WaitsAskAgain, woken}
+use Rattle.call_machines.proofs.UnrefusedLemmas.{unrefused_ends_hold}
+
+module _ {At Request Reply Out Object : Type 0} (system : System At Request Reply Out Object)
+    (Goes : Object → ℕ → Type 0) (again : WaitsAskAgain system Goes) where
+  -- ---- the two runs
+
+  -- the strict run still sleeps, where the other was woken without notes
+  record IsEarly (notes : NoteSet) (at strict : At) : Type 0 where
+    number : ℕ
+    sleeps : system.machine.does strict ≡ Next.Sleep number
+    is : at ≡ woken system strict
+    quiet : has_notes notes ≡ false
+
+  -- a process is in the same state in both runs, or in two waits of one call, or was woken early
+  data Fits (notes : NoteSet) (at strict : At) : Type 0 where
+    IsSame : at ≡ strict → Fits notes at strict
+    IsOneWait : AreOneWait system at strict → Fits notes at strict
+    WasEarly : IsEarly notes at strict → Fits notes at strict
+
+  record Sized (at : Coarse system) : Type 0 where
+    states : length at.states ≡ procs system
+    notes : length at.notes ≡ procs system
+
+  sized_more : (at : Coarse system) (move : Move Request Reply) → Sized at
+      → Sized (moved system at move)
+  sized_more at move sized =
+      record {
+        states = length-set at.states move.by
+            (system.machine.goes_on (at_of system at move.by) (outcome_by move.grain))
+            ∙ sized.states;
+        notes = length-set at.notes move.by (notes_by (notes_of system at move.by) move.grain)
+            ∙ sized.notes;
+      }
+
+  -- a strict run that comes to the same as these moves
+  record Strictly (at : Coarse system) : Type 0 where
+    moves : List (Move Request Reply)
+    all : AreMoves system moves
+    unrefused : AreUnrefused system moves
+    strict : AreStrict system Goes moves
+    sized : Sized (coarse_of system moves)
+    object : (coarse_of system moves).object ≡ at.object
+    notes : (pid : ℕ) → notes_of system (coarse_of system moves) pid ≡ notes_of system at pid
+    states : (pid : ℕ) → Fits (notes_of system at pid) (at_of system at pid)
+        (at_of system (coarse_of system moves) pid)
+
+  -- ---- one move more
+
+  module _ (at : Coarse system) (sized : Sized at) (pid : ℕ) (low : pid < procs system) where
+    -- something of the process that moved, and of the others
+    each : (X : ℕ → Type 0) → X pid → ((other : ℕ) → other ≢ pid → X other)
+        → (other : ℕ) → X other
+    each X own others other = by (eqb_tells other pid)
+      where
+        by : ((eqb other pid ≡ true) × (other ≡ pid)) ⊎ ((eqb other pid ≡ false) × (other ≢ pid))
+            → X other
+        by (inl same) = subst X (sym same.1) own
+        by (inr differs) = others other differs.1
+
+    abbrev after : Coarse system → Grain Request Reply → Coarse system
+    after c grain = moved system c (record { by = pid; grain = grain })
+
+    state_now : (c : Coarse system) (grain : Grain Request Reply) → Sized c
+        → at_of system (after c grain) pid
+        ≡ system.machine.goes_on (at_of system c pid) (outcome_by grain)
+    state_now c grain size =
+        get_or-set_same c.states pid
+        (system.machine.goes_on (at_of system c pid) (outcome_by grain)) system.none
+        (subst (λ (n : ℕ). pid < n) (sym size.states) low)
+
+    state_other : (c : Coarse system) (grain : Grain Request Reply) (other : ℕ) → other ≢ pid
+        → at_of system (after c grain) other ≡ at_of system c other
+    state_other c grain other differs =
+        get_or-set_other c.states pid other
+        (system.machine.goes_on (at_of system c pid) (outcome_by grain)) system.none differs
+
+    notes_now : (c : Coarse system) (grain : Grain Request Reply) → Sized c
+        → notes_of system (after c grain) pid ≡ notes_by (notes_of system c pid) grain
+    notes_now c grain size =
+        get_or-set_same c.notes pid (notes_by (notes_of system c pid) grain) no_notes
+        (subst (λ (n : ℕ). pid < n) (sym size.notes) low)
+
+    notes_other : (c : Coarse system) (grain : Grain Request Reply) (other : ℕ) → other ≢ pid
+        → notes_of system (after c grain) other ≡ notes_of system c other
+    notes_other c grain other differs =
+        get_or-set_other c.notes pid other (notes_by (notes_of system c pid) grain) no_notes
+        differs
+
+    -- two states of a process, by what they are equal to
+    fits_as : (notes : NoteSet) (a b : At) (other_notes : NoteSet) (other_a other_b : At)
+        → other_notes ≡ notes → other_a ≡ a → other_b ≡ b → Fits notes a b
+        → Fits other_notes other_a other_b
+    fits_as notes a b other_notes other_a other_b notes_is a_is b_is fits =
+        subst (λ (n : NoteSet). Fits n other_a other_b) (sym notes_is)
+        (subst (λ (s : At). Fits notes s other_b) (sym a_is)
+        (subst (Fits notes a) (sym b_is) fits))
+
+    module _ (so : Strictly at) where
+      abbrev now : Coarse system
+      now = coarse_of system so.moves
+
+      -- a move that the strict run makes too
+      both : (grain : Grain Request Reply)
+          → May system now.object (notes_of system now pid)
+          (system.machine.does (at_of system now pid)) grain
+          → IsUnrefused system grain → EndsInTime system Goes now.object pid grain
+          → Fits (notes_by (notes_of system at pid) grain)
+          (system.machine.goes_on (at_of system at pid) (outcome_by grain))
+          (system.machine.goes_on (at_of system now pid) (outcome_by grain))
+          → Strictly (after at grain)
+      both grain may unrefused strict fits =
+          record {
+            moves = record { by = pid; grain = grain } ∷ so.moves;
+            all = (so.all, (low, may));
+            unrefused = (so.unrefused, unrefused);
+            strict = (so.strict, strict);
+            sized = sized_more now (record { by = pid; grain = grain }) so.sized;
+            object = ap (λ (o : Object). object_with system o grain) so.object;
+            notes = each (λ p. notes_of system (after now grain) p
+                ≡ notes_of system (after at grain) p)
+                (notes_now now grain so.sized
+                ∙ (ap (λ (n : NoteSet). notes_by n grain) (so.notes pid)
+                ∙ sym (notes_now at grain sized)))
+                (λ other differs. notes_other now grain other differs
+                ∙ (so.notes other ∙ sym (notes_other at grain other differs)));
+            states = each (λ p. Fits (notes_of system (after at grain) p)
+                (at_of system (after at grain) p) (at_of system (after now grain) p))
+                (fits_as _ _ _ _ _ _ (notes_now at grain sized) (state_now at grain sized)
+                (state_now now grain so.sized) fits)
+                (λ other differs. fits_as _ _ _ _ _ _ (notes_other at grain other differs)
+                (state_other at grain other differs) (state_other now grain other differs)
+                (so.states other));
+          }
+
+      -- a move that it leaves out
+      skip : (grain : Grain Request Reply)
+          → object_with system at.object grain ≡ at.object
+          → notes_by (notes_of system at pid) grain ≡ notes_of system at pid
+          → Fits (notes_of system at pid)
+          (system.machine.goes_on (at_of system at pid) (outcome_by grain))
+          (at_of system now pid)
+          → Strictly (after at grain)
+      skip grain object_is notes_is fits =
+          record {
+            moves = so.moves;
+            all = so.all;
+            unrefused = so.unrefused;
+            strict = so.strict;
+            sized = so.sized;
+            object = so.object ∙ sym object_is;
+            notes = each (λ p. notes_of system now p ≡ notes_of system (after at grain) p)
+                (so.notes pid ∙ sym (notes_now at grain sized ∙ notes_is))
+                (λ other differs. so.notes other ∙ sym (notes_other at grain other differs));
+            states = each (λ p. Fits (notes_of system (after at grain) p)
+                (at_of system (after at grain) p) (at_of system now p))
+                (fits_as _ _ _ _ _ _ (notes_now at grain sized ∙ notes_is)
+                (state_now at grain sized) refl fits)
+                (λ other differs. fits_as _ _ _ _ _ _ (notes_other at grain other differs)
+                (state_other at grain other differs) refl (so.states other));
+          }
+
+      -- what may come of it at the strict run
+      may_now : (does : Next Request Out) (grain : Grain Request Reply)
+          → May system at.object (notes_of system at pid) does grain
+          → May system now.object (notes_of system now pid) does grain
+      may_now does grain may =
+          subst (λ (o : Object). May system o (notes_of system now pid) does grain)
+          (sym so.object)
+          (subst (λ (n : NoteSet). May system at.object n does grain) (sym (so.notes pid)) may)
+
+      abbrev old : At
+      old = at_of system at pid
+
+      -- where both are in the same state
+      same_both : (grain : Grain Request Reply) → old ≡ at_of system now pid
+          → May system at.object (notes_of system at pid) (system.machine.does old) grain
+          → IsUnrefused system grain → EndsInTime system Goes now.object pid grain
+          → Strictly (after at grain)
+      same_both grain same may unrefused strict =
+          both grain
+          (may_now _ grain (subst (λ (a : At). May system at.object (notes_of system at pid)
+          (system.machine.does a) grain) same may))
+          unrefused strict
+          (IsSame (ap (λ (a : At). system.machine.goes_on a (outcome_by grain)) same))
+
+      same_step : (grain : Grain Request Reply) → old ≡ at_of system now pid
+          → May system at.object (notes_of system at pid) (system.machine.does old) grain
+          → IsUnrefused system grain → Strictly (after at grain)
+      same_step Woken same may unrefused =
+          skip Woken refl refl (WasEarly (record {
+            number = may.0;
+            sleeps = ap system.machine.does (sym same) ∙ may.1;
+            is = ap (woken system) same;
+            quiet = may.2;
+          }))
+      same_step (Heard request reply) same may unrefused = same_both _ same may unrefused tt
+      same_step (Noted set) same may unrefused = same_both _ same may unrefused tt
+      same_step (Refused why) same may unrefused = absurd unrefused
+      same_step Went same may unrefused = same_both _ same may unrefused tt
+      same_step (Returned set) same may unrefused = same_both _ same may unrefused tt
+
+      -- where both sleep
+      asleep_step : (grain : Grain Request Reply) → AreOneWait system old (at_of system now pid)
+          → May system at.object (notes_of system at pid) (system.machine.does old) grain
+          → IsUnrefused system grain → Strictly (after at grain)
+      asleep_step Woken one may unrefused =
+          skip Woken refl refl (WasEarly (record {
+            number = one.other_number;
+            sleeps = one.other_sleeps;
+            is = one.alike (Ok tt);
+            quiet = may.2;
+          }))
+      asleep_step (Noted set) one may unrefused =
+          both (Noted set)
+          (may_now _ (Noted set) (one.other_number, one.other_sleeps, may.2, may.3))
+          tt tt (IsSame (one.alike (Err (fault.Interrupted set))))
+      asleep_step (Refused why) one may unrefused = absurd unrefused
+      asleep_step (Heard request reply) one may unrefused =
+          absurd (let both = sym one.sleeps ∙ may.0 in cc)
+      asleep_step Went one may unrefused = absurd (let both = sym one.sleeps ∙ may.2 in cc)
+      asleep_step (Returned set) one may unrefused = absurd (let both = sym one.sleeps ∙ may in cc)
+
+      -- the strict run's wait ends too, where the object lets the process go on
+      catch_up : IsEarly (notes_of system at pid) old (at_of system now pid)
+          → Goes now.object pid
+          → (caught : Strictly at) × (old ≡ at_of system (coarse_of system caught.moves) pid)
+      catch_up early goes = (
+        record {
+          moves = record { by = pid; grain = Woken } ∷ so.moves;
+          all = (
+            so.all,
+            (low, (early.number, early.sleeps, ap has_notes (so.notes pid) ∙ early.quiet)),
+          );
+          unrefused = (so.unrefused, tt);
+          strict = (so.strict, goes);
+          sized = sized_more now (record { by = pid; grain = Woken }) so.sized;
+          object = so.object;
+          notes = each (λ p. notes_of system (after now Woken) p ≡ notes_of system at p)
+              (notes_now now Woken so.sized ∙ so.notes pid)
+              (λ other differs. notes_other now Woken other differs ∙ so.notes other);
+          states = each (λ p. Fits (notes_of system at p) (at_of system at p)
+              (at_of system (after now Woken) p)) (IsSame caught)
+              (λ other differs. fits_as _ _ _ _ _ _ refl refl (state_other now Woken other differs)
+              (so.states other));
+        },
+        caught,
+      )
+        where
+          caught : old ≡ at_of system (after now Woken) pid
+          caught = early.is ∙ sym (state_now now Woken so.sized)
+
+      -- where it asks in vain the strict run sleeps on
+      in_vain : (request : Request) (grain : Grain Request Reply)
+          → IsEarly (notes_of system at pid) old (at_of system now pid)
+          → system.machine.does (woken system (at_of system now pid)) ≡ Next.Ask request
+          → AsksInVain system now.object (at_of system now pid) request
+          → May system at.object (notes_of system at pid) (system.machine.does old) grain
+          → Strictly (after at grain)
+      in_vain request (Heard other reply) early asks vain may =
+          let is = sym asks ∙ (ap system.machine.does (sym early.is) ∙ may.0) in
+          let same : request ≡ other = cc in
+          skip (Heard other reply)
+          (subst (λ (o : Object). system.after o other ≡ o) so.object
+          (subst (λ (r : Request). system.after now.object r ≡ now.object) same vain.stays))
+          refl
+          (IsOneWait (subst (λ (s : At). AreOneWait system s (at_of system now pid))
+          (ap (λ (r : Reply). system.machine.goes_on (woken system (at_of system now pid))
+          (Outcome.Replied r))
+          (ap (λ (r : Request). system.answer now.object r) same
+          ∙ (ap (λ (o : Object). system.answer o other) so.object ∙ sym may.1))
+          ∙ ap (λ (s : At). system.machine.goes_on s (Outcome.Replied reply)) (sym early.is))
+          vain.waits))
+      in_vain request Woken early asks vain may =
+          absurd (let is = sym asks ∙ (ap system.machine.does (sym early.is) ∙ may.1) in cc)
+      in_vain request (Noted set) early asks vain may =
+          absurd (let is = sym asks ∙ (ap system.machine.does (sym early.is) ∙ may.1) in cc)
+      in_vain request (Refused why) early asks vain may =
+          absurd (let is = sym asks ∙ (ap system.machine.does (sym early.is) ∙ may.1) in cc)
+      in_vain request Went early asks vain may =
+          absurd (let is = sym asks ∙ (ap system.machine.does (sym early.is) ∙ may.2) in cc)
+      in_vain request (Returned set) early asks vain may =
+          absurd (let is = sym asks ∙ (ap system.machine.does (sym early.is) ∙ may) in cc)
+
+    -- any move
+    step : (so : Strictly at) (grain : Grain Request Reply)
+        → May system at.object (notes_of system at pid)
+        (system.machine.does (at_of system at pid)) grain
+        → IsUnrefused system grain → Strictly (after at grain)
+    step so grain may unrefused = by (so.states pid)
+      where
+        strict_at : At
+        strict_at = at_of system (coarse_of system so.moves) pid
+
+        of : (early : IsEarly (notes_of system at pid) (at_of system at pid) strict_at)
+            → AsksAgain system Goes (coarse_of system so.moves).object pid strict_at
+            → Strictly (after at grain)
+        of early asks = comes asks.comes
+          where
+            comes : Goes (coarse_of system so.moves).object pid
+                ⊎ AsksInVain system (coarse_of system so.moves).object strict_at asks.request
+                → Strictly (after at grain)
+            comes (inl goes) =
+                let caught = catch_up so early goes in
+                same_step caught.0 grain caught.1 may unrefused
+            comes (inr vain) = in_vain so asks.request grain early asks.asks vain may
+
+        by : Fits (notes_of system at pid) (at_of system at pid) strict_at
+            → Strictly (after at grain)
+        by (IsSame same) = same_step so grain same may unrefused
+        by (IsOneWait one) = asleep_step so grain one may unrefused
+        by (WasEarly early) = of early (again so.moves so.all pid early.number low early.sleeps)
+
+  -- ---- all moves
+
+  sized_start : Sized (coarse_of system [])
+  sized_start =
+      record { states = refl; notes = length-replicate (procs system) no_notes }
+
+  strictly_after : (moves : List (Move Request Reply)) → AreMoves system moves
+      → AreUnrefused system moves
+      → Strictly (coarse_of system moves) × Sized (coarse_of system moves)
+  strictly_after [] all unrefused = (
+    record {
+      moves = [];
+      all = tt;
+      unrefused = tt;
+      strict = tt;
+      sized = sized_start;
+      object = refl;
+      notes = λ pid. refl;
+      states = λ pid. IsSame refl;
+    },
+    sized_start,
+  )
+  strictly_after (move ∷ moves) all unrefused =
+      let so = strictly_after moves all.0 unrefused.0 in (
+        step (coarse_of system moves) so.1 move.by all.1.0 so.0 move.grain all.1.1 unrefused.1,
+        sized_more (coarse_of system moves) move so.1,
+      )
+
+  -- ---- where they are stuck
+
+  module _ (at : Coarse system) (so : Strictly at) (pid : ℕ) (low : pid < procs system) where
+    abbrev last : Coarse system
+    last = coarse_of system so.moves
+
+    -- one that was woken early is not over, and does not sleep
+    asks_on : (early : IsEarly (notes_of system at pid) (at_of system at pid)
+        (at_of system last pid))
+        → (request : Request) × (system.machine.does (at_of system at pid) ≡ Next.Ask request)
+    asks_on early =
+        let asks = again so.moves so.all pid early.number low early.sleeps in
+        (asks.request, ap system.machine.does early.is ∙ asks.asks)
+
+    not_over : (does : Next Request Out) (number : ℕ) → does ≡ Next.Sleep number → HasEnded does → ⊥
+    not_over does number is ends = subst HasEnded is ends
+
+    stuck_so : HasEnded (system.machine.does (at_of system at pid)) ⊎ WaitsBy system Goes at pid
+        → HasEnded (system.machine.does (at_of system last pid)) ⊎ WaitsBy system Goes last pid
+    stuck_so = by (so.states pid)
+      where
+        waits : (number : ℕ) → system.machine.does (at_of system last pid) ≡ Next.Sleep number
+            → WaitsBy system Goes at pid → WaitsBy system Goes last pid
+        waits number sleeps on =
+            record {
+              number = number;
+              does = sleeps;
+              none = ap has_notes (so.notes pid) ∙ on.none;
+              stays = λ goes. on.stays (subst (λ (o : Object). Goes o pid) so.object goes);
+            }
+
+        by : Fits (notes_of system at pid) (at_of system at pid) (at_of system last pid)
+            → HasEnded (system.machine.does (at_of system at pid)) ⊎ WaitsBy system Goes at pid
+            → HasEnded (system.machine.does (at_of system last pid)) ⊎ WaitsBy system Goes last pid
+        by (IsSame same) (inl ends) =
+            inl (subst (λ (s : At). HasEnded (system.machine.does s)) same ends)
+        by (IsSame same) (inr on) =
+            inr (waits on.number (sym (ap system.machine.does same) ∙ on.does) on)
+        by (IsOneWait one) (inl ends) = absurd (not_over _ one.number one.sleeps ends)
+        by (IsOneWait one) (inr on) = inr (waits one.other_number one.other_sleeps on)
+        by (WasEarly early) (inl ends) = absurd (subst HasEnded (asks_on early).1 ends)
+        by (WasEarly early) (inr on) =
+            absurd (let is = sym (asks_on early).1 ∙ on.does in cc)
+
+    over_back : HasEnded (system.machine.does (at_of system last pid))
+        → HasEnded (system.machine.does (at_of system at pid))
+    over_back ends = by (so.states pid)
+      where
+        by : Fits (notes_of system at pid) (at_of system at pid) (at_of system last pid)
+            → HasEnded (system.machine.does (at_of system at pid))
+        by (IsSame same) = subst (λ (s : At). HasEnded (system.machine.does s)) (sym same) ends
+        by (IsOneWait one) = absurd (not_over _ one.other_number one.other_sleeps ends)
+        by (WasEarly early) = absurd (not_over _ early.number early.sleeps ends)
+
+  -- runs with waits that end too early may be left out
+  all_ends : NeverStrictlyStuck system Goes
+      → (moves : List (Move Request Reply)) → AreMoves system moves → AreUnrefused system moves
+      → IsObjectStuck system Goes (coarse_of system moves)
+      → HaveEndedAt system (coarse_of system moves)
+  all_ends never moves all unrefused stuck =
+      let so = (strictly_after moves all unrefused).0 in
+      let at = coarse_of system moves in
+      let ended = never so.moves so.all so.unrefused so.strict
+      (λ pid low. stuck_so at so pid low (stuck pid low)) in
+      λ pid low. over_back at so pid low (ended pid low)
+
+-- and so may refused sleeps
+pub strict_ends_hold : {At Request Reply Out Object : Type 0}
+    (system : System At Request Reply Out Object) (Goes : Object → ℕ → Type 0)
+    → StrictEndsHold system Goes
+strict_ends_hold system Goes apart below due again never =
+    unrefused_ends_hold system apart below (λ moves all unrefused stuck.
+    all_ends system Goes again never moves all unrefused
+    (λ pid low. by moves all stuck pid low (stuck pid low)))
+  where
+    by : (moves : List (Move _ _)) (all : AreMoves system moves)
+        → IsCoarseStuck system (coarse_of system moves) → (pid : ℕ) → pid < procs system
+        → HasEnded (system.machine.does (at_of system (coarse_of system moves) pid))
+        ⊎ WaitsOn system (coarse_of system moves) pid
+        → HasEnded (system.machine.does (at_of system (coarse_of system moves) pid))
+        ⊎ WaitsBy system Goes (coarse_of system moves) pid
+    by moves all stuck pid low (inl ends) = inl ends
+    by moves all stuck pid low (inr on) =
+        inr (record {
+          number = on.number;
+          does = on.does;
+          none = on.none;
+          stays = λ goes. due moves all stuck pid low on goes;
+        })
