@@ -1,0 +1,3 @@
+pub mod MeetMachine
+pub mod SpaceEnds
+pub mod SpaceRuns
