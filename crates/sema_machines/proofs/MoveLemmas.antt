@@ -5,11 +5,10 @@ use Rattle.std.proofs.Common.{false, if◌then◌else◌, Option, Some, None, Li
 use Rattle.std.proofs.Common.{length, refl, sym, ◌∙◌, ap, subst, arith}
 use Rattle.std.specs.Prelude.{⊤, max, slice_index, slice_set}
 use Rattle.std.proofs.lemmas.Bool.Decides.{nat_tests}
-use Rattle.std.proofs.lemmas.List.{get_or-set_same, length-set}
+use Rattle.std.proofs.lemmas.List.{get_or-set_same}
 use Rattle.sync_base.specs.declared.fault.Fault.{Fault}
 use Rattle.sync_base.specs.declared.fault.Fault.TheVariants as fault
 use Rattle.sync_base.specs.declared.note.NoteSet.{NoteSet}
-use Rattle.sleep_core.proofs.ListLemmas.{get_or-set_cases}
 use Rattle.semaphore.specs.declared.sema.Sema.{Sema}
 use Rattle.semaphore.specs.declared.sema_object.SemaCall.{SemaCall}
 use Rattle.semaphore.specs.declared.sema_object.SemaCall.TheVariants as call
@@ -18,13 +17,14 @@ use Rattle.semaphore.specs.declared.sema_object.SemaReply.TheVariants as reply
 use Rattle.semaphore.specs.SemaHistory.{SemaEntry, last_named}
 use Rattle.semaphore.specs.Units.{SemaState, after, answer_next, answer_to, seat_named}
 use Rattle.semaphore.specs.Units.{sema_after}
-use Rattle.call_machines.specs.Grain.{Grain, May, Move}
+use Rattle.call_machines.specs.Grain.{Grain, Move}
 use Rattle.call_machines.specs.Grain.{levels_by, object_with, outcome_by}
 use Rattle.call_machines.specs.Grain.Grain.{Heard, Noted, Refused, Returned, Went, Woken}
 use Rattle.call_machines.specs.Machine.{Next, Outcome}
 use Rattle.call_machines.specs.Runs.{System}
 use Rattle.call_machines.specs.WaitTables.{left_with}
 use Rattle.call_machines.specs.WaitTables.WaitState.{Asking, Begun, Leaving, Returning, Waits}
+use Rattle.call_machines.proofs.CoarseLemmas.{ComesOf}
 use Rattle.sema_machines.specs.CallMachines.{at_leave, named, released}
 use Rattle.sema_machines.specs.CallMachines.ReleaseState.{Naming, Releasing, Waking}
 use Rattle.sema_machines.specs.CallMachines.TryState.{Trying}
@@ -122,9 +122,6 @@ module _ (sema : Sema) (value rendez : ℕ) (starts : List CallState) (none : Ca
   system = sema_system sema value rendez starts none
 
   module _ (pid : ℕ) (s : SemaState) (notes : NoteSet) (past : List SemaEntry) where
-    abbrev MayDo : CallState → Grain Hold HoldReply → Type 0
-    MayDo at grain = May system s notes (call_does sema at) grain
-
     abbrev now_at : CallState → Grain Hold HoldReply → CallState
     now_at at grain = call_goes_on sema at (outcome_by grain)
 
@@ -182,31 +179,8 @@ module _ (sema : Sema) (value rendez : ℕ) (starts : List CallState) (none : Ca
     -- ---- what a move does
 
     -- what may come of what it does
-    abbrev pub ComesOf : Next Hold CallOut → Grain Hold HoldReply → Type 0
-    ComesOf (Next.Ask other) (Heard hold replied) =
-        (other ≡ hold) × (replied ≡ hold_answer s hold)
-    ComesOf (Next.Sleep number) Woken = ⊤
-    ComesOf (Next.Sleep number) (Noted set) = ⊤
-    ComesOf (Next.Sleep number) (Refused why) = ⊤
-    ComesOf (Next.Wake other level) Went = ⊤
-    ComesOf (Next.Return set) (Returned other) = ⊤
-    ComesOf does grain = ⊥
-
-    -- and nothing else may come of it
-    pub comes_of : (does : Next Hold CallOut) (grain : Grain Hold HoldReply)
-        → May system s notes does grain → ComesOf does grain
-    comes_of (Next.Ask other) (Heard hold replied) may = (let is = may.0 in cc, may.1)
-    comes_of (Next.Sleep number) Woken may = tt
-    comes_of (Next.Sleep number) (Noted set) may = tt
-    comes_of (Next.Sleep number) (Refused why) may = tt
-    comes_of (Next.Wake other level) Went may = tt
-    comes_of (Next.Return set) (Returned other) may = tt
-    comes_of does (Heard hold replied) may = absurd (let is = may.0 in cc)
-    comes_of does Woken may = absurd (let is = may.1 in cc)
-    comes_of does (Noted set) may = absurd (let is = may.1 in cc)
-    comes_of does (Refused why) may = absurd (let is = may.1 in cc)
-    comes_of does Went may = absurd (let is = may.2 in cc)
-    comes_of does (Returned set) may = absurd (let is = may in cc)
+    abbrev Comes : Next Hold CallOut → Grain Hold HoldReply → Type 0
+    Comes = ComesOf system s notes
 
     -- the process waits rightly after it; a seat is left to be named only where it asks on; and a
     -- seat that it was named it is to wake
@@ -343,7 +317,7 @@ module _ (sema : Sema) (value rendez : ℕ) (starts : List CallState) (none : Ca
 
     -- each move of a call is so
     pub moves_well : (at : CallState) (grain : Grain Hold HoldReply) → IsBy pid at
-        → ComesOf (call_does sema at) grain → MovesWell at grain
+        → Comes (call_does sema at) grain → MovesWell at grain
     moves_well (Takes seat Begun) (Heard hold replied) own came =
         of_hold (Takes seat Begun) (Alone (call.Acquire seat)) hold replied came.0
         (asks_alone (Takes seat Begun) (call.Acquire seat) replied seat refl (λ on. on)
@@ -392,7 +366,7 @@ module _ (sema : Sema) (value rendez : ℕ) (starts : List CallState) (none : Ca
 
     -- a wakeup that is over has left its level in the Rendez of the seat
     pub wakes_so : (levels : List ℕ) → length levels ≡ rendez → (seat count : ℕ) → seat < sema.procs
-        → (at : CallState) (grain : Grain Hold HoldReply) → ComesOf (call_does sema at) grain
+        → (at : CallState) (grain : Grain Hold HoldReply) → Comes (call_does sema at) grain
         → IsToWake seat count at
         → count ≤ slice_index (levels_by levels (call_does sema at) grain) (sema.first + seat)
     wakes_so levels sized seat count low (Gives units (Waking sum other grants)) Went came is =
@@ -406,29 +380,3 @@ module _ (sema : Sema) (value rendez : ℕ) (starts : List CallState) (none : Ca
     wakes_so levels sized seat count low (Gives units (Waking sum other grants)) grain came is =
         absurd came
     wakes_so levels sized seat count low at grain came is = absurd is
-
-  -- no move lowers a level
-  pub levels_rise : (levels : List ℕ) (does : Next Hold CallOut) (grain : Grain Hold HoldReply)
-      (at : ℕ) → slice_index levels at ≤ slice_index (levels_by levels does grain) at
-  levels_rise levels (Next.Wake to level) Went at =
-      by (get_or-set_cases levels to.0 (max (slice_index levels to.0) level) at 0)
-    where
-      by : ((at ≡ to.0) × (slice_index (slice_set levels to.0
-          (max (slice_index levels to.0) level)) at ≡ max (slice_index levels to.0) level))
-          ⊎ (slice_index (slice_set levels to.0 (max (slice_index levels to.0) level)) at
-          ≡ slice_index levels at)
-          → slice_index levels at
-          ≤ slice_index (slice_set levels to.0 (max (slice_index levels to.0) level)) at
-      by (inl here) =
-          let same = ap (slice_index levels) here.0 in
-          let is = here.1 in
-          omega (arith, same, is)
-      by (inr is) = omega (arith, is)
-  levels_rise levels does grain at = omega arith
-
-  -- and each Rendez keeps a level
-  pub levels_stay : (levels : List ℕ) (does : Next Hold CallOut) (grain : Grain Hold HoldReply)
-      → length (levels_by levels does grain) ≡ length levels
-  levels_stay levels (Next.Wake to level) Went =
-      length-set levels to.0 (max (slice_index levels to.0) level)
-  levels_stay levels does grain = refl

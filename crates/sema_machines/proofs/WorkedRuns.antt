@@ -28,13 +28,14 @@ use Rattle.call_machines.specs.Grain.Grain.{Went, Woken}
 use Rattle.call_machines.specs.Runs.{IsOfCalls, Step, System}
 use Rattle.call_machines.specs.Runs.Act.{Asked, Made}
 use Rattle.call_machines.specs.Schedules.{position_of, run_of}
+use Rattle.call_machines.specs.StrictRuns.{AreStrict, EndsInTime}
 use Rattle.call_machines.specs.WaitTables.WaitState.{Begun, Over, Waits}
 use Rattle.call_machines.proofs.ScheduleLemmas.{schedules_are_runs}
 use Rattle.sema_machines.specs.CallMachines.ReleaseState.{Released, Releasing}
 use Rattle.sema_machines.specs.CallMachines.TryState.{Tried, Trying}
 use Rattle.sema_machines.specs.Holds.{Hold, HoldReply}
 use Rattle.sema_machines.specs.Holds.Hold.{Alone, ReleaseAndNext}
-use Rattle.sema_machines.specs.SemaEnds.{AreGrantedFirst, IsGrantedFirst, is_granted}
+use Rattle.sema_machines.specs.SemaEnds.{GoesOn, is_granted}
 use Rattle.sema_machines.specs.SemaRuns.{AreItsCalls, BeginsBy, CallOut, CallState, account_in}
 use Rattle.sema_machines.specs.SemaRuns.{requests_of, seen_by, sema_system}
 use Rattle.sema_machines.specs.SemaRuns.CallState.{Gives, Takes, Tries}
@@ -110,10 +111,18 @@ module _ (lock : Locked SemaState SemaCall SemaReply) where
   its_levels = refl
 
   -- its wait ended after its unit was granted
-  its_wait_was_granted : AreGrantedFirst one_waits
+  its_wait_was_granted : AreStrict one_waits GoesOn
       (moves_of one_waits (run_of one_waits its_schedule))
   unfolding passed
   its_wait_was_granted = ((((((tt, tt), tt), tt), tt), refl), tt)
+
+  -- a wait that ends well before its unit is granted is none of these
+  ends_too_early : EndsInTime one_waits GoesOn (opening 0 2 0) 0 Woken → ⊥
+  ends_too_early granted = cc
+
+  -- of any other move nothing is asked
+  wakes_at_any_time : EndsInTime one_waits GoesOn (opening 0 2 0) 0 Went
+  wakes_at_any_time = tt
 
   -- these are calls of the semaphore, each by its own seat
   are_its_calls : AreItsCalls sema 0 2 (Takes 0 Begun ∷ Gives 1 Releasing ∷ [])
@@ -223,11 +232,3 @@ waiting_waits = refl
 
 idle_waits_not : is_granted Idle ≡ false
 idle_waits_not = refl
-
--- a wait that ends well before its unit is granted is none of these
-ends_too_early : IsGrantedFirst (opening 0 2 0) 0 Woken → ⊥
-ends_too_early granted = cc
-
--- of any other move nothing is asked
-wakes_at_any_time : IsGrantedFirst (opening 0 2 0) 0 Went
-wakes_at_any_time = tt

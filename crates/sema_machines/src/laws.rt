@@ -5,7 +5,7 @@ ghost use Rattle.sema_machines.specs.CallMachines.{
   ReleasesArePlays,
   TriesArePlays,
 };
-ghost use Rattle.sema_machines.specs.SemaEnds.{SemaphoreEndsHold, UnitsAreDue};
+ghost use Rattle.sema_machines.specs.SemaEnds.{SemaphoreEndsHold, UnitsAreDue, WaitsAskInVain};
 ghost use Rattle.sema_machines.specs.SemaRuns.{AcquiresInRuns, ReleasesInRuns, TriesInRuns};
 
 use semaphore::laws::{states_are_sound, who_is_granted_is_released};
@@ -25,12 +25,13 @@ pub fn calls_in_runs_are_as_promised()
     ensures releases { ReleasesInRuns }
 {}
 
-/// Where no call of a semaphore goes on, nobody waits who was granted a unit. So if each run at the
-/// grain of calls that comes to where each call is over or waits without a unit has all calls over,
-/// no run of the calls deadlocks. Such runs need not be looked at in which a sleep is refused, or a
-/// wait ends well before its unit is granted.
+/// Where no call of a semaphore goes on, nobody waits who was granted a unit; and who is woken
+/// before that asks in vain. So if each run at the grain of calls that comes to where each call is
+/// over or waits without a unit has all calls over, no run of the calls deadlocks. Such runs need
+/// not be looked at in which a sleep is refused, or a wait ends well before its unit is granted.
 pub fn units_are_due()
     ensures due { UnitsAreDue }
+    ensures vain { WaitsAskInVain }
     ensures ends { SemaphoreEndsHold }
 {
     who_is_granted_is_released();
