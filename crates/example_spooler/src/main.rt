@@ -14,8 +14,7 @@ use std::sync::Wait;
 use std::thread::Threads;
 use std::time::Clock as Now;
 
-/// Who is who, by pid. The supervisor is the first process, 0; the clients are next. The printers
-/// come between the spooler and the operator.
+/// Who is who, by pid: the supervisor is 0, and the printers come before the operator.
 const CLIENTS: u64 = 6;
 
 const SPOOLER: u64 = CLIENTS + 1;
@@ -175,8 +174,7 @@ impl<'o, R: Wait + Now> Job<R> for Places<'o> {
     }
 }
 
-/// The supervisor has the first place at each object. It counts the clients, the spooler and the
-/// printers that have ended.
+/// The supervisor has the first place at each object, and counts who has ended before the operator.
 #[derive(Drop)]
 struct Supervisor<'o> {
     places: Places<'o>,
@@ -206,8 +204,7 @@ impl<'o, R: Wait> Told<R> for Supervisor<'o> {
     }
 }
 
-/// What was answered, handed on, printed and cancelled: what the clients, the spooler, the printers
-/// and the operator counted.
+/// What the clients, the spooler, the printers and the operator counted.
 type Totals = Result<[Count; 4], Fault>;
 
 fn sum(ended: &[Ended<'_, Outcome>]) -> Totals {
