@@ -1,7 +1,10 @@
--- One move at the grain of calls: what may come of what a machine does, and that no level falls.
-use Rattle.std.proofs.Common.{◌≡◌, ◌⊎◌, inl, inr, ◌≤◌, ℕ, List, length, refl, ap, arith}
-use Rattle.std.specs.Prelude.{⊤, max, slice_index, slice_set}
-use Rattle.std.proofs.lemmas.List.{length-set}
+-- One move at the grain of calls: what may come of what a machine does, that no level falls, and
+-- what holds of the states after it.
+use Rattle.std.proofs.Common.{◌≡◌, ◌≢◌, ◌⊎◌, inl, inr, ◌≤◌, ◌<◌, ℕ, true, false, eqb, List}
+use Rattle.std.proofs.Common.{length, refl, sym, ap, subst, arith}
+use Rattle.std.specs.Prelude.{⊤, max, slice_index, slice_index_or, slice_set}
+use Rattle.std.proofs.lemmas.Bool.Decides.{eqb_tells}
+use Rattle.std.proofs.lemmas.List.{get_or-set_other, get_or-set_same, length-set}
 use Rattle.sleep_core.proofs.ListLemmas.{get_or-set_cases}
 use Rattle.sync_base.specs.declared.note.NoteSet.{NoteSet}
 use Rattle.call_machines.specs.Grain.{Grain, May, levels_by}
@@ -64,3 +67,29 @@ module _ {Request Reply Out : Type 0} where
   levels_stay levels (Next.Wake to level) Went =
       length-set levels to.0 (max (slice_index levels to.0) level)
   levels_stay levels does grain = refl
+
+-- ---- a list of states in which one is new
+
+module _ {A : Type 0} (states : List A) (pid : ℕ) (low : pid < length states) (new none : A) where
+  -- it stands at its place
+  pub own_now : slice_index_or (slice_set states pid new) pid none ≡ new
+  own_now = get_or-set_same states pid new none low
+
+  -- and the others are as they were
+  pub others_now : (other : ℕ) → other ≢ pid
+      → slice_index_or (slice_set states pid new) other none ≡ slice_index_or states other none
+  others_now other differs = get_or-set_other states pid other new none differs
+
+  -- so what holds of it and of the others holds of each
+  pub each : (P : ℕ → A → Type 0) → P pid new
+      → ((other : ℕ) → other ≢ pid → P other (slice_index_or states other none))
+      → (other : ℕ) → P other (slice_index_or (slice_set states pid new) other none)
+  each P own others other = by (eqb_tells other pid)
+    where
+      by : ((eqb other pid ≡ true) × (other ≡ pid)) ⊎ ((eqb other pid ≡ false) × (other ≢ pid))
+          → P other (slice_index_or (slice_set states pid new) other none)
+      by (inl same) =
+          subst (λ (p : ℕ). P p (slice_index_or (slice_set states pid new) p none)) (sym same.1)
+          (subst (P pid) (sym own_now) own)
+      by (inr differs) =
+          subst (P other) (sym (others_now other differs.1)) (others other differs.1)

@@ -1,6 +1,6 @@
 -- The rows of the definitions, one by one, and what each forbids.
-use Rattle.std.proofs.Common.{◌≡◌, ◌<◌, Bool, true, false, Option, Some, None, [], ◌∷◌, Ok, Err, refl, ap}
-use Rattle.std.proofs.Common.{arith}
+use Rattle.std.proofs.Common.{◌≡◌, ◌<◌, ℕ, Bool, true, false, Option, Some, None, [], ◌∷◌, Ok}
+use Rattle.std.proofs.Common.{Err, refl, ap, arith}
 use Rattle.std.specs.Prelude.{⊤}
 use Rattle.sync_base.specs.declared.fault.Fault.TheVariants as fault
 use Rattle.sync_base.specs.declared.limits.TheConstants.{TOP_LEVEL}
@@ -18,6 +18,7 @@ use Rattle.call_machines.specs.Grain.{Grain, May, levels_by, notes_by, with_move
 use Rattle.call_machines.specs.Grain.Grain.{Heard, Noted, Refused, Returned, Went, Woken}
 use Rattle.call_machines.specs.GrainEnds.{AreUnrefused}
 use Rattle.call_machines.specs.Machine.{Next, Outcome}
+use Rattle.call_machines.specs.Programs.{programs_of, with_rest}
 use Rattle.call_machines.specs.Runs.{IsAnswered, IsNext, IsOfCalls, event_for, outcome_of}
 use Rattle.call_machines.specs.Runs.{own_after}
 use Rattle.call_machines.specs.Runs.Act.{Asked, Made}
@@ -303,3 +304,32 @@ allows_to_forget_it no_more =
     let late = ap means_late so.2.0 in
     let is = so.1 in
     cc
+
+-- ---- several calls, one after the other
+
+abbrev ended_with : Next ℕ ℕ
+ended_with = Next.Over (Ok 1)
+
+abbrev sleeps_on : Next ℕ ℕ
+sleeps_on = Next.Sleep 3
+
+-- the next one follows a call that is over
+a_call_follows : with_rest {At = ℕ} ended_with 5 (6 ∷ 7 ∷ [])
+    ≡ record { at = 6; rest = 7 ∷ [] }
+a_call_follows = refl
+
+-- if there is one
+none_follows_the_last : with_rest {At = ℕ} ended_with 5 [] ≡ record { at = 5; rest = [] }
+none_follows_the_last = refl
+
+-- and no other
+none_follows_a_sleep : with_rest {At = ℕ} sleeps_on 5 (6 ∷ []) ≡ record { at = 5; rest = 6 ∷ [] }
+none_follows_a_sleep = refl
+
+-- each process begins with its first call
+three_begin : programs_of {At = ℕ} (1 ∷ 2 ∷ 3 ∷ []) ((4 ∷ []) ∷ [])
+    ≡ record { at = 1; rest = 4 ∷ [] }
+    ∷ record { at = 2; rest = [] }
+    ∷ record { at = 3; rest = [] }
+    ∷ []
+three_begin = refl

@@ -3,6 +3,7 @@ pub mod Grain
 pub mod GrainEnds
 pub mod Machine
 pub mod Plays
+pub mod Programs
 pub mod Runs
 pub mod Schedules
 pub mod StrictRuns

@@ -8,8 +8,8 @@ pub mod InnerLemmas
 pub mod MoveLemmas
 pub mod PromiseLemmas
 pub mod ReleaseLemmas
+pub mod SeatLemmas
 pub mod SeenLemmas
-pub mod StrictLemmas
 pub mod TryLemmas
 mod WorkedMachines
 mod WorkedRuns

@@ -25,6 +25,7 @@ use Rattle.semaphore.specs.Units.{SemaState, opening, passed}
 use Rattle.call_machines.specs.Ends.{HasStopped, NoRunDeadlocks}
 use Rattle.call_machines.specs.Grain.{coarse_of, moves_of}
 use Rattle.call_machines.specs.Grain.Grain.{Went, Woken}
+use Rattle.call_machines.specs.Programs.{Program, program_system}
 use Rattle.call_machines.specs.Runs.{IsOfCalls, Step, System}
 use Rattle.call_machines.specs.Runs.Act.{Asked, Made}
 use Rattle.call_machines.specs.Schedules.{position_of, run_of}
@@ -136,6 +137,24 @@ module _ (lock : Locked SemaState SemaCall SemaReply) where
       begin zero low = (refl, refl)
       begin (suc zero) low = refl
       begin (suc (suc pid)) low = let two : suc (suc pid) < 2 = low in absurd (omega arith)
+
+  -- ---- two calls each
+
+  -- each process takes the one unit and gives it back
+  abbrev take_turns : System (Program CallState) Hold HoldReply CallOut SemaState
+  take_turns =
+      program_system
+      (sema_system sema 1 2 (Takes 0 Begun ∷ Takes 1 Begun ∷ []) (Gives 0 (Released (Ok 0))))
+      ((Gives 1 Releasing ∷ []) ∷ (Gives 1 Releasing ∷ []) ∷ [])
+
+  -- the second one waits, and is woken by the release of the first
+  their_turns : (position_of take_turns
+      (1 ∷ 1 ∷ 1 ∷ 1 ∷ 0 ∷ 0 ∷ 0 ∷ 0 ∷ 0 ∷ 1 ∷ 1 ∷ 1 ∷ 0 ∷ [])).states
+      ≡ record { at = Gives 1 (Released (Ok 1)); rest = [] }
+      ∷ record { at = Gives 1 (Released (Ok 1)); rest = [] }
+      ∷ []
+  unfolding passed
+  their_turns = refl
 
   -- ---- no wait
 

@@ -25,10 +25,10 @@ pub fn calls_in_runs_are_as_promised()
     ensures releases { ReleasesInRuns }
 {}
 
-/// Where no call of a semaphore goes on, nobody waits who was granted a unit; and who is woken
-/// before that asks in vain. So if each run at the grain of calls that comes to where each call is
-/// over or waits without a unit has all calls over, no run of the calls deadlocks. Such runs need
-/// not be looked at in which a sleep is refused, or a wait ends well before its unit is granted.
+/// Where no process goes on, nobody waits who was granted a unit; and who is woken before that asks
+/// in vain. So no run of the calls deadlocks, if each run at the grain of calls that comes to where
+/// each process has made its calls or waits without a unit has made all calls. Runs need not be
+/// looked at in which a sleep is refused, or a wait ends well before its unit is granted.
 pub fn units_are_due()
     ensures due { UnitsAreDue }
     ensures vain { WaitsAskInVain }

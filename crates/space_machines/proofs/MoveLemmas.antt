@@ -1,6 +1,6 @@
 -- One move of a rendezvous: what it leaves of who waits, of who was met and of who is to be woken.
 use Rattle.std.proofs.Common.{◌≡◌, ◌⊎◌, inl, inr, ◌≤◌, ◌<◌, ◌+◌, ℕ, true, Option, Some}
-use Rattle.std.proofs.Common.{None, List, [], ◌∷◌, length, refl, sym, ◌∙◌, ap, subst, arith}
+use Rattle.std.proofs.Common.{None, List, length, refl, sym, ◌∙◌, ap, subst, arith}
 use Rattle.std.specs.Prelude.{⊤, max, slice_index, slice_set}
 use Rattle.std.proofs.lemmas.Bool.{false≢true}
 use Rattle.std.proofs.lemmas.List.{get_or-set_same}
@@ -25,7 +25,7 @@ use Rattle.call_machines.proofs.CoarseLemmas.{ComesOf}
 use Rattle.space_machines.specs.MeetMachine.{MeetState, left, meet_does, meet_goes_on}
 use Rattle.space_machines.specs.MeetMachine.MeetState.{Calls, Waking, Woke}
 use Rattle.space_machines.specs.SpaceEnds.{is_met}
-use Rattle.space_machines.specs.SpaceRuns.{AreItsCalls, MemberCalls, with_next}
+use Rattle.space_machines.specs.SpaceRuns.{AreItsCalls, MemberCall}
 use Rattle.space_machines.specs.SpaceRuns.{space_system}
 use Rattle.space_machines.proofs.PlaceLemmas.{Fits, IsLeft, IsMetBy, IsNotMet, WaitsWithCount}
 use Rattle.space_machines.proofs.PlaceLemmas.{collect_finds_nobody, leave_finds_nobody, left_of}
@@ -78,9 +78,9 @@ rightly_later (Calls (Over answer)) was now left rightly = tt
 rightly_later (Waking found) was now left rightly = tt
 rightly_later (Woke given) was now left rightly = tt
 
-module _ (space : TagSpace) (rendez : ℕ) (starts : List MemberCalls) (none : MemberCalls)
-    (are : AreItsCalls space rendez starts none) where
-  abbrev system : System MemberCalls GroupCall GroupReply ℕ (List Place)
+module _ (space : TagSpace) (rendez : ℕ) (starts : List MemberCall) (none : MemberCall)
+    (rests : List (List MemberCall)) (are : AreItsCalls space rendez starts none rests) where
+  abbrev system : System MemberCall GroupCall GroupReply ℕ (List Place)
   system = space_system space rendez starts none
 
   module _ (places : List Place) (notes : NoteSet) where
@@ -90,12 +90,12 @@ module _ (space : TagSpace) (rendez : ℕ) (starts : List MemberCalls) (none : M
     -- ---- what a move does
 
     -- where the machine of the call has come then
-    abbrev pub gone_to : MemberCalls → Outcome GroupReply → MeetState
+    abbrev pub gone_to : MemberCall → Outcome GroupReply → MeetState
     gone_to old came = meet_goes_on space old.member old.offered old.at came
 
     -- after a move of the process with this number the process waits rightly, and each member whose
     -- call it met it is to wake
-    pub record MovesWell (pid : ℕ) (old : MemberCalls) (grain : Grain GroupCall GroupReply) :
+    pub record MovesWell (pid : ℕ) (old : MemberCall) (grain : Grain GroupCall GroupReply) :
         Type 0 where
       -- the process waits rightly
       pub rightly : WaitsRightly (place_of (object_with system places grain) pid)
@@ -115,7 +115,7 @@ module _ (space : TagSpace) (rendez : ℕ) (starts : List MemberCalls) (none : M
     stays member = record { count = refl; before = λ met. met }
 
     -- a move that asks nothing
-    quiet : (pid : ℕ) (old : MemberCalls) (grain : Grain GroupCall GroupReply)
+    quiet : (pid : ℕ) (old : MemberCall) (grain : Grain GroupCall GroupReply)
         → places ≡ object_with system places grain
         → WaitsRightly (place_of places pid) (gone_to old (outcome_by grain))
         → MovesWell pid old grain
@@ -136,7 +136,7 @@ module _ (space : TagSpace) (rendez : ℕ) (starts : List MemberCalls) (none : M
         (place_of (places_after places call) member)) (sym is) (left_of places call member)
 
     -- a request that meets nobody
-    asks_on : (pid : ℕ) (old : MemberCalls) (call : GroupCall) (told : GroupReply)
+    asks_on : (pid : ℕ) (old : MemberCall) (call : GroupCall) (told : GroupReply)
         → told ≡ answer_to places call
         → ((given other count : ℕ) → answer_to places call ≡ group.Met given other count → ⊥)
         → WaitsRightly (place_of (places_after places call) pid)
@@ -161,7 +161,7 @@ module _ (space : TagSpace) (rendez : ℕ) (starts : List MemberCalls) (none : M
         by member (inl unmet) = inl unmet
         by member (inr met) = absurd (nobody met.given member _ (sym is ∙ met.told_is))
 
-    module _ (pid : ℕ) (old : MemberCalls) (own : old.member ≡ pid) where
+    module _ (pid : ℕ) (old : MemberCall) (own : old.member ≡ pid) where
       -- the call of the member, where the reply says so
       abbrev its_call : GroupCall
       its_call = Call old.member old.offered.tag old.offered.value
@@ -315,42 +315,3 @@ module _ (space : TagSpace) (rendez : ℕ) (starts : List MemberCalls) (none : M
         is.0 (let enough = is.1 in omega (arith, set, enough))
     wakes_so levels sized member count own low offered (Waking found) grain came is = absurd came
     wakes_so levels sized member count own low offered s grain came is = absurd is
-
--- ---- the next call
-
--- a process whose next call begins waits rightly
-pub next_rightly : (place : Place) (member : ℕ) (offered : Offered) (s : MeetState)
-    (rest : List Offered) → WaitsRightly place s
-    → WaitsRightly place (with_next member offered s rest).at
-next_rightly place member offered (Calls (Over answer)) [] rightly = tt
-next_rightly place member offered (Calls (Over answer)) (next ∷ rest) rightly = tt
-next_rightly place member offered (Woke given) [] rightly = tt
-next_rightly place member offered (Woke given) (next ∷ rest) rightly = tt
-next_rightly place member offered (Calls (Waits number)) rest rightly = rightly
-next_rightly place member offered (Calls Begun) rest rightly = tt
-next_rightly place member offered (Calls Asking) rest rightly = tt
-next_rightly place member offered (Calls (Leaving why)) rest rightly = tt
-next_rightly place member offered (Calls (Returning set out)) rest rightly = tt
-next_rightly place member offered (Waking found) rest rightly = tt
-
--- one that is to wake a member does so before its next call
-pub wakes_first : (own : ℕ) (offered : Offered) (s : MeetState) (rest : List Offered)
-    (member count : ℕ) → IsToWake member count s
-    → IsToWake member count (with_next own offered s rest).at
-wakes_first own offered (Waking found) rest member count is = is
-wakes_first own offered (Calls at) rest member count is = absurd is
-wakes_first own offered (Woke given) rest member count is = absurd is
-
--- and each call of a process is by one member
-pub one_member : (own : ℕ) (offered : Offered) (s : MeetState) (rest : List Offered)
-    → (with_next own offered s rest).member ≡ own
-one_member own offered (Calls (Over answer)) [] = refl
-one_member own offered (Calls (Over answer)) (next ∷ rest) = refl
-one_member own offered (Woke given) [] = refl
-one_member own offered (Woke given) (next ∷ rest) = refl
-one_member own offered (Calls (Waits number)) rest = refl
-one_member own offered (Calls Begun) rest = refl
-one_member own offered (Calls Asking) rest = refl
-one_member own offered (Calls (Leaving why)) rest = refl
-one_member own offered (Calls (Returning set out)) rest = refl
-one_member own offered (Waking found) rest = refl

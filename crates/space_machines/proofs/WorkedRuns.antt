@@ -2,6 +2,7 @@
 -- tags.
 use Rattle.std.proofs.Common.{◌≡◌, ◌<◌, inr, ℕ, zero, suc, List, [], ◌∷◌, Ok, refl}
 use Rattle.std.proofs.Common.{arith}
+use Rattle.std.specs.List.{AllByRecursion}
 use Rattle.std.specs.Prelude.{slice_index_or}
 use Rattle.std.proofs.lemmas.Bool.{false≢true}
 use Rattle.kernel_lock.specs.declared.locked.Locked.{Locked}
@@ -23,6 +24,7 @@ use Rattle.tag_space.specs.GroupObject as object
 use Rattle.call_machines.specs.Ends.{HasStopped, NoRunDeadlocks}
 use Rattle.call_machines.specs.Grain.{coarse_of, moves_of}
 use Rattle.call_machines.specs.GrainEnds.{IsObjectStuck}
+use Rattle.call_machines.specs.Programs.{Program}
 use Rattle.call_machines.specs.Runs.{IsOfCalls, Step, System}
 use Rattle.call_machines.specs.Runs.Act.{Asked, Made}
 use Rattle.call_machines.specs.Schedules.{position_of, run_of}
@@ -33,7 +35,7 @@ use Rattle.call_machines.proofs.ScheduleLemmas.{schedules_are_runs}
 use Rattle.space_machines.specs.MeetMachine.{MeetState}
 use Rattle.space_machines.specs.MeetMachine.MeetState.{Calls, Woke}
 use Rattle.space_machines.specs.SpaceEnds.{GoesOn}
-use Rattle.space_machines.specs.SpaceRuns.{AreItsCalls, BeginsBy, MemberCalls, space_system}
+use Rattle.space_machines.specs.SpaceRuns.{AreItsCalls, BeginsBy, MemberCall, calls_in}
 
 module _ (lock : Locked (List Place) GroupCall GroupReply) (limited : limit_of lock ≡ 2)
     (opened : opening_of object.group lock ≡ object.opening 2 0) where
@@ -51,19 +53,27 @@ module _ (lock : Locked (List Place) GroupCall GroupReply) (limited : limit_of l
       }
 
   -- a member in its call, with this tag and this value
-  abbrev call : ℕ → ℕ → ℕ → MeetState → MemberCalls
+  abbrev call : ℕ → ℕ → ℕ → MeetState → MemberCall
   call member tag value at =
       record {
         member = member;
         offered = record { tag = record { 0 = tag }; value = value };
         at = at;
-        rest = [];
       }
 
-  -- two calls at the space
-  abbrev calls_of : MemberCalls → MemberCalls
-      → System MemberCalls GroupCall GroupReply ℕ (List Place)
-  calls_of first second = space_system space 2 (first ∷ second ∷ []) (call 2 0 0 (Woke 0))
+  -- a process that makes no other call
+  abbrev only : MemberCall → Program MemberCall
+  only call = record { at = call; rest = [] }
+
+  abbrev none : MemberCall
+  none = call 2 0 0 (Woke 0)
+
+  abbrev Calls2 : Type 0
+  Calls2 = System (Program MemberCall) GroupCall GroupReply ℕ (List Place)
+
+  -- two processes that make calls at the space: first these, and then those
+  abbrev calls_of : List MemberCall → List (List MemberCall) → Calls2
+  calls_of starts rests = calls_in space 2 starts none rests
 
   abbrev proc : ℕ → Pid
   proc pid = record { 0 = pid }
@@ -79,8 +89,8 @@ module _ (lock : Locked (List Place) GroupCall GroupReply) (limited : limit_of l
 
   -- ---- one waits, and the other finds it
 
-  abbrev they_meet : System MemberCalls GroupCall GroupReply ℕ (List Place)
-  they_meet = calls_of (call 0 7 10 (Calls Begun)) (call 1 7 20 (Calls Begun))
+  abbrev they_meet : Calls2
+  they_meet = calls_of (call 0 7 10 (Calls Begun) ∷ call 1 7 20 (Calls Begun) ∷ []) []
 
   abbrev its_schedule : List ℕ
   its_schedule = 0 ∷ 0 ∷ 0 ∷ 1 ∷ 1 ∷ 1 ∷ 1 ∷ 0 ∷ 0 ∷ 0 ∷ []
@@ -101,7 +111,7 @@ module _ (lock : Locked (List Place) GroupCall GroupReply) (limited : limit_of l
 
   -- each has the value of the other
   its_states : (position_of they_meet its_schedule).states
-      ≡ call 0 7 10 (Calls (Over (Ok 20))) ∷ call 1 7 20 (Woke 10) ∷ []
+      ≡ only (call 0 7 10 (Calls (Over (Ok 20)))) ∷ only (call 1 7 20 (Woke 10)) ∷ []
   its_states = refl
 
   -- the wakeup left its level at the grain of calls
@@ -123,48 +133,52 @@ module _ (lock : Locked (List Place) GroupCall GroupReply) (limited : limit_of l
   second_does_not : GoesOn met_early 1 → ⊥
   second_does_not goes = false≢true goes
 
-  -- these are calls of the space, each by its own member
-  are_its_calls : AreItsCalls space 2
-      (call 0 7 10 (Calls Begun) ∷ call 1 7 20 (Calls Begun) ∷ []) (call 2 0 0 (Woke 0))
-  are_its_calls = record { procs_are = omega arith; row = omega arith; begin = begin }
+  -- ---- two calls each
+
+  abbrev first_calls : List MemberCall
+  first_calls = call 0 7 10 (Calls Begun) ∷ call 1 7 20 (Calls Begun) ∷ []
+
+  abbrev second_calls : List (List MemberCall)
+  second_calls =
+      (call 0 8 11 (Calls Begun) ∷ []) ∷ (call 1 8 21 (Calls Begun) ∷ []) ∷ []
+
+  -- the next call of a process begins where the one before it is over
+  abbrev they_meet_twice : Calls2
+  they_meet_twice = calls_of first_calls second_calls
+
+  -- the one that was found last finds the other at the second tag
+  their_states : (position_of they_meet_twice (1 ∷ 1 ∷ 1 ∷ 0 ∷ 0 ∷ 0 ∷ 0 ∷ 0 ∷ 0 ∷ 0 ∷ 1 ∷ 1 ∷ 1
+      ∷ 1 ∷ 1 ∷ 1 ∷ 1 ∷ 0 ∷ 0 ∷ 0 ∷ [])).states
+      ≡ only (call 0 8 11 (Woke 21)) ∷ only (call 1 8 21 (Calls (Over (Ok 11)))) ∷ []
+  their_states = refl
+
+  -- these are calls of the space, those of each process by its own member
+  are_its_calls : AreItsCalls space 2 first_calls none second_calls
+  are_its_calls =
+      record { procs_are = omega arith; row = omega arith; begin = begin; later = later }
     where
-      begin : (pid : ℕ) → pid < 2
-          → BeginsBy pid (slice_index_or
-          (call 0 7 10 (Calls Begun) ∷ call 1 7 20 (Calls Begun) ∷ []) pid (call 2 0 0 (Woke 0)))
+      begin : (pid : ℕ) → pid < 2 → BeginsBy pid (slice_index_or first_calls pid none)
       begin zero low = record { member_is = refl; begins = refl }
       begin (suc zero) low = record { member_is = refl; begins = refl }
       begin (suc (suc pid)) low = let two : suc (suc pid) < 2 = low in absurd (omega arith)
 
-  -- ---- two calls each
-
-  -- the next call of a process begins where the one before it is over
-  abbrev two_each : System MemberCalls GroupCall GroupReply ℕ (List Place)
-  two_each =
-      calls_of
-      (record (call 0 7 10 (Calls Begun)) {
-        rest = record { tag = record { 0 = 8 }; value = 11 } ∷ [];
-      })
-      (record (call 1 7 20 (Calls Begun)) {
-        rest = record { tag = record { 0 = 8 }; value = 21 } ∷ [];
-      })
-
-  -- the second one that waited finds the first one at the other tag
-  they_meet_again : (position_of two_each (1 ∷ 1 ∷ 1 ∷ 0 ∷ 0 ∷ 0 ∷ 0 ∷ 0 ∷ 0 ∷ 0 ∷ 1 ∷ 1 ∷ 1
-      ∷ 1 ∷ 1 ∷ 1 ∷ 1 ∷ 0 ∷ 0 ∷ 0 ∷ [])).states
-      ≡ call 0 8 11 (Woke 21) ∷ call 1 8 21 (Calls (Over (Ok 11))) ∷ []
-  they_meet_again = refl
+      later : (pid : ℕ) → pid < 2
+          → AllByRecursion (BeginsBy pid) (slice_index_or second_calls pid [])
+      later zero low = (record { member_is = refl; begins = refl }, tt)
+      later (suc zero) low = (record { member_is = refl; begins = refl }, tt)
+      later (suc (suc pid)) low = let two : suc (suc pid) < 2 = low in absurd (omega arith)
 
   -- ---- a deadlock
 
   -- two wait, each with a tag of its own
-  abbrev two_wait : System MemberCalls GroupCall GroupReply ℕ (List Place)
-  two_wait = calls_of (call 0 7 10 (Calls Begun)) (call 1 8 20 (Calls Begun))
+  abbrev two_wait : Calls2
+  two_wait = calls_of (call 0 7 10 (Calls Begun) ∷ call 1 8 20 (Calls Begun) ∷ []) []
 
   abbrev both_asleep : List (Step GroupCall GroupReply)
   both_asleep = run_of two_wait (1 ∷ 1 ∷ 1 ∷ 0 ∷ 0 ∷ 0 ∷ [])
 
   both_wait : (position_of two_wait (1 ∷ 1 ∷ 1 ∷ 0 ∷ 0 ∷ 0 ∷ [])).states
-      ≡ call 0 7 10 (Calls (Waits 0)) ∷ call 1 8 20 (Calls (Waits 0)) ∷ []
+      ≡ only (call 0 7 10 (Calls (Waits 0))) ∷ only (call 1 8 20 (Calls (Waits 0))) ∷ []
   both_wait = refl
 
   zero_there : 0 < 2

@@ -1,5 +1,6 @@
 -- Runs of rendezvous in one space: each process makes calls one after the other, by its own member.
-use Rattle.std.specs.Prelude.{◌≡◌, ◌≤◌, ◌<◌, ◌+◌, ℕ, List, ◌∷◌, length, slice_index_or}
+use Rattle.std.specs.Prelude.{◌≡◌, ◌≤◌, ◌<◌, ◌+◌, ℕ, List, [], length, slice_index_or}
+use Rattle.std.specs.List.{AllByRecursion}
 use Rattle.tag_space.specs.declared.calls.GroupCall.{GroupCall}
 use Rattle.tag_space.specs.declared.calls.GroupReply.{GroupReply}
 use Rattle.tag_space.specs.declared.place.Place.{Place}
@@ -8,44 +9,32 @@ use Rattle.tag_space.specs.GroupObject.{answer_to, opening, places_after}
 use Rattle.tag_space.specs.Members.{rendez_of_member}
 use Rattle.tag_space.specs.Rendezvous.{Offered}
 use Rattle.call_machines.specs.Machine.{Machine, Next, Outcome}
+use Rattle.call_machines.specs.Programs.{Program, program_system}
 use Rattle.call_machines.specs.Runs.{System}
-use Rattle.call_machines.specs.WaitTables.WaitState.{Begun, Over}
+use Rattle.call_machines.specs.WaitTables.WaitState.{Begun}
 use Rattle.space_machines.specs.MeetMachine.{MeetState, meet_does, meet_goes_on}
-use Rattle.space_machines.specs.MeetMachine.MeetState.{Calls, Woke}
+use Rattle.space_machines.specs.MeetMachine.MeetState.{Calls}
 
--- where a process is: the member that makes its calls, what the call under way offers, the state of
--- its machine, and what the calls after it offer, the next one first
-pub record MemberCalls : Type 0 where
+-- where a call is: the member that makes it, what it offers, and the state of its machine
+pub record MemberCall : Type 0 where
   pub member : ℕ
   pub offered : Offered
   pub at : MeetState
-  pub rest : List Offered
-
--- a call that is over is followed by the next one, whatever it answered
-abbrev pub with_next : ℕ → Offered → MeetState → List Offered → MemberCalls
-with_next member offered (Calls (Over answer)) (next ∷ rest) =
-    record { member = member; offered = next; at = Calls Begun; rest = rest }
-with_next member offered (Woke given) (next ∷ rest) =
-    record { member = member; offered = next; at = Calls Begun; rest = rest }
-with_next member offered at rest =
-    record { member = member; offered = offered; at = at; rest = rest }
 
 module _ (space : TagSpace) where
-  abbrev pub call_does : MemberCalls → Next GroupCall ℕ
-  call_does calls = meet_does space calls.member calls.offered calls.at
+  abbrev pub call_does : MemberCall → Next GroupCall ℕ
+  call_does call = meet_does space call.member call.offered call.at
 
-  abbrev pub call_goes_on : MemberCalls → Outcome GroupReply → MemberCalls
-  call_goes_on calls came =
-      with_next calls.member calls.offered
-      (meet_goes_on space calls.member calls.offered calls.at came) calls.rest
+  abbrev pub call_goes_on : MemberCall → Outcome GroupReply → MemberCall
+  call_goes_on call came =
+      record call { at = meet_goes_on space call.member call.offered call.at came }
 
-  -- the machine of these calls; its answer is that of the last one
-  abbrev pub call_machine : Machine MemberCalls GroupCall GroupReply ℕ
+  abbrev pub call_machine : Machine MemberCall GroupCall GroupReply ℕ
   call_machine = record { does = call_does; goes_on = call_goes_on }
 
-  -- the system of such calls, in a world with so many Rendez
-  abbrev pub space_system : ℕ → List MemberCalls → MemberCalls
-      → System MemberCalls GroupCall GroupReply ℕ (List Place)
+  -- the system of such calls, one a process, in a world with so many Rendez
+  abbrev pub space_system : ℕ → List MemberCall → MemberCall
+      → System MemberCall GroupCall GroupReply ℕ (List Place)
   space_system rendez starts none =
       record {
         machine = call_machine;
@@ -58,14 +47,23 @@ module _ (space : TagSpace) where
         none = none;
       }
 
--- the first of these calls begins, by the member with this number
-pub record BeginsBy (pid : ℕ) (calls : MemberCalls) : Type 0 where
-  pub member_is : calls.member ≡ pid
-  pub begins : calls.at ≡ Calls Begun
+-- the call begins, by the member with this number
+pub record BeginsBy (pid : ℕ) (call : MemberCall) : Type 0 where
+  pub member_is : call.member ≡ pid
+  pub begins : call.at ≡ Calls Begun
 
--- each process makes calls in the space, by a member of its own; the row of Rendez is in the world
-pub record AreItsCalls (space : TagSpace) (rendez : ℕ) (starts : List MemberCalls)
-    (none : MemberCalls) : Type 0 where
+-- each process makes these calls in the space, one after the other, by a member of its own; the row
+-- of Rendez is in the world
+pub record AreItsCalls (space : TagSpace) (rendez : ℕ) (starts : List MemberCall)
+    (none : MemberCall) (rests : List (List MemberCall)) : Type 0 where
   pub procs_are : length starts ≤ space.procs
   pub row : space.first.0 + space.procs ≤ rendez
   pub begin : (pid : ℕ) → pid < length starts → BeginsBy pid (slice_index_or starts pid none)
+  pub later : (pid : ℕ) → pid < length starts
+      → AllByRecursion (BeginsBy pid) (slice_index_or rests pid [])
+
+-- the system of the processes that make them
+abbrev pub calls_in : TagSpace → ℕ → List MemberCall → MemberCall → List (List MemberCall)
+    → System (Program MemberCall) GroupCall GroupReply ℕ (List Place)
+calls_in space rendez starts none rests =
+    program_system (space_system space rendez starts none) rests
