@@ -1,6 +1,5 @@
 -- What a reader knows of what it counted.
 use Rattle.std.proofs.Common.{◌∙◌}
-use Rattle.std.specs.Prelude.{Result, Ok, Err, OnOk}
 use Rattle.sync_base.specs.declared.threads_opts.ThreadsOpts.{ThreadsOpts}
 use Rattle.crew.specs.declared.tally.Tally.{Tally}
 use Rattle.crew.specs.Tally.{AreOfOneRun, IsTallyOf}
@@ -15,8 +14,3 @@ still_of opts old new is same =
       each = same.each ∙ is.each;
       size = same.size ∙ is.size;
     }
-
--- what holds in any case holds where there is a value
-pub whatever : {A B : Type 0} (answer : Result A B) (P : Type 0) → P → OnOk answer P
-whatever (Ok value) P p = p
-whatever (Err why) P p = tt

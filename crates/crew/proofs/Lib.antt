@@ -1,5 +1,4 @@
 mod CrewLemmas
-mod HangLemmas
 mod WorkedLimits
 mod WorkedRuns
 mod WritingLemmas

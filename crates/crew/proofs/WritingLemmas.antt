@@ -8,7 +8,9 @@ use Rattle.histories.specs.declared.account.Account.{Account}
 use Rattle.sync_base.specs.declared.fault.Fault.{Fault}
 use Rattle.sleep_wakeup.specs.Kernel.{Running}
 use Rattle.block_queue.specs.declared.entry.Entry.{Entry}
+use Rattle.block_queue.specs.declared.entry.Entry.TheVariants.{Hung}
 use Rattle.block_queue.specs.declared.view.Key.{Key}
+use Rattle.block_queue.specs.Meaning.{Enters}
 use Rattle.pipe_dev.specs.declared.answers.ReadAnswer.{ReadAnswer}
 use Rattle.pipe_dev.specs.declared.answers.ReadAnswer.TheVariants as read
 use Rattle.pipe_dev.specs.declared.row.Row.{Row}
@@ -23,8 +25,13 @@ use Rattle.pipe_dev.proofs.AskedLemmas.{last_asked}
 use Rattle.pipe_dev.proofs.SideLemmas.{writes_add}
 use Rattle.crew.specs.declared.crew.Writer.{Writer}
 use Rattle.crew.specs.Message.{message_of}
-use Rattle.crew.specs.Threads.{is_at_end}
+use Rattle.crew.specs.Threads.{is_at_end, is_hung}
 use Rattle.crew.specs.Writing.{HasWrittenOn, messages_of}
+
+-- a hangup is the newest entry
+pub hung_now : (key : Key) (seat : ℕ) (old new : Account Entry) → Enters key (Hung seat) old new
+    → is_hung new.seen ≡ true
+hung_now key seat old new enters = ap (λ (a : Account Entry). is_hung a.seen) enters.adds.new_is
 
 -- a read that was answered the end
 at_end_now : (key : Key) (row : Row) (old new : Calling) → ReadsBlock key row old (Ok read.End) new

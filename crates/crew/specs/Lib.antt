@@ -1,5 +1,4 @@
 pub mod Message
 pub mod Tally
-pub mod Tasks
 pub mod Threads
 pub mod Writing

@@ -1,5 +1,5 @@
 //! A crew: many writers and one reader, each on a thread of its own, on one direction of a pipe.
-//! Reading order: `gate`, `message`, `opts`, `tally`, `crew`, `task`, `threads`.
+//! Reading order: `gate`, `message`, `opts`, `tally`, `crew`, `threads`.
 #![tactic(auto)]
 
 mod crew;
@@ -7,7 +7,6 @@ pub mod gate;
 mod message;
 pub mod opts;
 mod tally;
-mod task;
 pub mod threads;
 
 pub use gate::{Gate, OpenGate};

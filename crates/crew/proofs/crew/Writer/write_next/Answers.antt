@@ -17,7 +17,7 @@ returns-in-Ok-clause-on g c =
     = c.deref.ensures.value
     ∙ kept_items old.message.len c.fill.new.message _ filled
     ∙ (c.fill.ensures ∙ ap (λ n. message_of n old.number old.done) len) in
-    written_on old _ c.args.proc.now c.write.new.proc c.deref.result.now (Ok c.in-Ok.field-0)
+    written_on old _ old.proc c.write.new.proc c.deref.result.now (Ok c.in-Ok.field-0)
     c.in-Ok.ensures.wrote c.in-Ok.ensures.end refl refl (search rules)
     (one_more (vec_len old.message) old.number old.done
     ∙ ap (λ (x : List ℕ). done ++ x ∷ []) (sym block))
@@ -25,6 +25,6 @@ returns-in-Ok-clause-on g c =
 pub returns-in-Err-clause-on : goal.returns-in-Err-clause-on
 returns-in-Err-clause-on g c =
     let old = c.args.self.now in
-    written_on old _ c.args.proc.now c.write.new.proc c.deref.result.now (Err c.in-Err.fault)
+    written_on old _ old.proc c.write.new.proc c.deref.result.now (Err c.in-Err.fault)
     c.in-Err.ensures.wrote c.in-Err.ensures.end refl refl (search rules)
     (sym (append-nil (messages_of (vec_len old.message) old.number old.done)))
