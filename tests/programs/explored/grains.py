@@ -9,6 +9,8 @@ from explored.maker import random_program
 from explored.program import EXPIRED, TIMED, bits_of, program_of, without_deadline
 from explored.searching import LIMIT, search
 
+# Which random programs are compared. Those with branches, and those with deadlines, are of devices.
+KINDS = ("core", "devices", "locks", "branches", "deadlines")
 # How many states a program has at most by events: those with few steps have as many kinds of steps, and are quickly searched.
 FEWER = 2000
 
@@ -71,12 +73,18 @@ def grains_differ(program, events):
     return found_differ(program, events, calls), calls
 
 
-def smallest(program):
+def why_not(program, events, differs):
+    """Where the searches differ, or what they found from something else; or None. Also what the search by calls found."""
+    why, calls = grains_differ(program, events)
+    return why or differs(program, events, calls), calls
+
+
+def smallest(program, differs):
     """A program that differs too, and none of those that lack a call, a device or a process more."""
     for candidate in program.smaller():
         found = candidate and not has_two_readers(candidate) and search(Machine(candidate), LIMIT)
-        if found and grains_differ(candidate, found)[0]:
-            return smallest(candidate)
+        if found and why_not(candidate, found, differs)[0]:
+            return smallest(candidate, differs)
     return program
 
 
@@ -88,21 +96,19 @@ def has_its_states():
             fail(f"by calls it has {found.states} states and {found.verdict}, of this program:\n" + "\n".join(lines))
 
 
-def grains_agree(kinds, seeds, differs=lambda program, calls: None):
-    """Compares the random programs of these kinds with these seeds, and what the search by calls found with something else."""
+def grains_agree(seeds, differs=lambda program, events, calls: None):
+    """Compares the random programs of each kind with these seeds, and what both searches found with something else."""
     taken = collections.Counter()
-    for kind, seed in ((kind, seed) for kind in kinds for seed in seeds):
+    for kind, seed in ((kind, seed) for kind in KINDS for seed in seeds):
         program, found = random_program(kind, seed, FEWER)
         if has_two_readers(program):
             taken["refused"] += 1
             continue
-        why, calls = grains_differ(program, found)
+        why, calls = why_not(program, found, differs)
         if why:
-            small = smallest(program)
-            fail(f"{kind} {seed}: {grains_differ(small, search(Machine(small), LIMIT))[0]}, of this program:\n{small.script()}")
-        why = differs(program, calls)
-        if why:
-            fail(f"{kind} {seed}: {why}, of this program:\n{program.script()}")
+            small = smallest(program, differs)
+            fail(f"{kind} {seed}: {why_not(small, search(Machine(small), LIMIT), differs)[0]}, of this program:\n{small.script()}")
+        taken.update({answer for _, answer in calls.branched} | found.came_to)
         taken.update({"programs": 1, found.verdict: 1, "none ends": not found.ends, "last": len(found.last), "events": found.states,
                       "calls": calls.states, "expired": posts_expired(program)})
     return taken

@@ -76,11 +76,11 @@ def random_locks(dice):
 
 
 def random_calls(dice, kind, branches, has_clock):
-    """A program of this kind, `core` or `devices`, which may have branches, and deadlines."""
+    """A program of the core, or of a kind with devices, which may have branches, and deadlines."""
     if has_clock and dice.random() < 0.5:
         return finished(dice, Program(dice.randint(1, 2), *random_feeder(dice, branches)), branches)
     procs, rendez = dice.choice([2, 2, 3, 3, 3] if has_clock else [2, 2, 3, 3, 3, 4]), dice.randint(1, 3)
-    devices = random_devices(dice, procs) if kind == "devices" else []
+    devices = [] if kind == "core" else random_devices(dice, procs)
     if branches:
         devices = [("sema", 0, words[2]) if words[0] == "sema" and dice.random() < 0.6 else words for words in devices]
     kinds, counts = [("core", 0, procs)], {}
@@ -119,10 +119,13 @@ def random_aim(dice, branches, has_clock):
 
 def random_program(kind, seed, limit=LIMIT):
     """The random program of this kind, `core`, `devices` or `locks`, with this seed: the first with at most so many states. One
-    with devices is the first of ten that comes to what was drawn before, or else the last of these ten: so each comes often."""
+    with devices is the first of ten that comes to what was drawn before, or else the last of these ten: so each comes often.
+    Of the kinds `branches` and `deadlines` are those with devices that have these."""
     dice = random.Random(f"{kind} {seed}")
-    branches, has_clock, left = dice.random() < 0.35, kind == "devices" and dice.random() < 0.35, 10
-    aim = random_aim(dice, branches, has_clock) if kind == "devices" else None
+    has_devices = kind in ("devices", "branches", "deadlines")
+    branches, has_clock, left = dice.random() < 0.35, has_devices and dice.random() < 0.35, 10
+    branches, has_clock = branches or kind == "branches", has_clock or kind == "deadlines"
+    aim = random_aim(dice, branches, has_clock) if has_devices else None
     while True:
         program = random_locks(dice) if kind == "locks" else random_calls(dice, kind, branches, has_clock)
         found = any(program.calls) and search(Machine(program), limit)
