@@ -102,7 +102,7 @@ class Row:
                     self.add(("go", to), here)
                     self.call = None
                 else:
-                    assert (self.call, item[1]) not in self.jumps
+                    assert self.call is not None and (self.call, item[1]) not in self.jumps
                     self.jumps[self.call, item[1]] = item[2], to
             else:
                 at_step = self.add(item, here)
@@ -127,8 +127,11 @@ class Row:
         return waiting
 
     def write_either(self, either, heads, path):
+        """A process chooses the first way or one of the others, and these are such a choice again, where there are two at least."""
         ways, after, waiting = [Place() for _ in either.ways], Place(), []
-        self.add(("either", *ways), path)
+        for at, way in enumerate(ways[:-2]):
+            self.add(("either", way, Place(len(self.steps) + 1)), (*path, "or", at))
+        self.add(("either", *ways[-2:]), path)
         for at, (way, body) in enumerate(zip(ways, either.ways)):
             way.at, self.call = len(self.steps), None
             waiting += self.write(body, heads, (*path, at))
