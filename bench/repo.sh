@@ -1,6 +1,14 @@
 # For the benchmarks that are Rattle. Each is the one crate of a repository of its own, so that the gate proves none of them,
-# beside copies of those crates of the library that it stands on. Both functions want $top, the top of this repository, and
+# beside copies of those crates of the library that it stands on. All functions want $top, the top of this repository, and
 # $work, the benchmark's folder under bench/out.
+
+# below CRATE
+# The crates of this repository that it stands on.
+below() {
+    for crate in $(sed -n "s/^$1\( [^:]*\)\{0,1\}: //p" "$top/crates.txt"); do
+        [ ! -d "$top/crates/$crate" ] || printf '%s ' "$crate"
+    done
+}
 
 # lay_out "LIBRARY .." "BENCHMARK: CRATE .."
 # Copies these crates of the library, which the first build proves, or takes what they kept. The line is that of the benchmark's

@@ -8,8 +8,7 @@ top=$here/../..
 work=$top/bench/out/facade
 
 . "$top/bench/repo.sh"
-lay_out "sync_base histories sleep_core kernel_lock rendez_words sleep_wakeup waiting timer_list block_queue pipe_dev tag_space semaphore plan9" \
-    "facade_bench: sync_base sleep_wakeup semaphore plan9"
+lay_out "$(below plan9) plan9" "facade_bench: sync_base sleep_wakeup semaphore plan9"
 cp "$here/facade.rattle" "$bench/src/main.rt"
 
 build 1 1 1

@@ -11,11 +11,7 @@ numbers=${2:-1000000}
 crates=${CROSSBEAM:-/usr/share/cargo/registry}
 
 . "$top/bench/repo.sh"
-below=
-for crate in $(sed -n 's/^plan9[^:]*: //p' "$top/crates.txt"); do
-    if [ -d "$top/crates/$crate" ]; then below="$below $crate"; fi
-done
-lay_out "$below plan9" "values_bench: plan9 messages crossbeam_channel"
+lay_out "$(below plan9) plan9" "values_bench: plan9 messages crossbeam_channel"
 cp "$here/values.rattle" "$bench/src/main.rt"
 
 if ls "$crates"/crossbeam-channel-* >/dev/null 2>&1; then
