@@ -6,8 +6,8 @@
 
 use plan9::{
     Clock, Ended, Fault, FaultText, Job, Member, Messages, Note, NoteSet, OpenedKernel, Pid, Plan,
-    Proc, QueueEnds, RealTime, Received, RendezId, Seat, Semaphore, SendCalls, Space, Started, Tag,
-    Team, Told, Watch, Worker, forks,
+    Proc, QueueEnds, RealTime, Received, RendezId, Roster, Seat, Semaphore, SendCalls, Space,
+    Started, Tag, Team, Told, Watch, Worker, forks,
 };
 use std::alloc::Global;
 use std::sync::Wait;
@@ -59,11 +59,13 @@ impl Count {
 
 type Outcome = Result<Count, Fault>;
 
+type Ends<'o> = QueueEnds<'o, Document>;
+
 /// A place at each object.
 #[derive(Drop)]
 struct Places<'o> {
-    jobs: QueueEnds<'o, Document>,
-    printing: QueueEnds<'o, Document>,
+    jobs: Ends<'o>,
+    printing: Ends<'o>,
     free: Seat<'o>,
     window: Member<'o>,
     watch: Watch<'o>,
@@ -71,10 +73,7 @@ struct Places<'o> {
     desk: RendezId,
 }
 
-fn split<'o, R: Wait>(
-    rt: &R,
-    ends: &mut QueueEnds<'o, Document>,
-) -> Result<QueueEnds<'o, Document>, Fault> {
+fn split<'o, R: Wait>(rt: &R, ends: &mut Ends<'o>) -> Result<Ends<'o>, Fault> {
     let (sender, receiver) = (ends.sender.split(rt)?, ends.receiver.split(rt)?);
     Ok(QueueEnds { sender, receiver })
 }
@@ -153,10 +152,18 @@ impl<'o> Places<'o> {
         Ok(count)
     }
 
-    /// The ticker tells the time, until a note.
-    fn tick<R: Wait + Now>(&mut self, rt: &R, proc: &mut Proc<'_>) -> Outcome {
-        let _notes = self.watch.run(rt, proc, &mut self.time.beat(rt));
-        Ok(Count::default())
+    /// Each does what it is for. The ticker tells the time, until a note.
+    fn work<R: Wait + Now>(&mut self, rt: &R, proc: &mut Proc<'_>) -> Outcome {
+        match proc.pid().0 {
+            SPOOLER => self.spool(rt, proc),
+            OPERATOR => self.operate(rt, proc),
+            TICKER => {
+                let _notes = self.watch.run(rt, proc, &mut self.time.beat(rt));
+                Ok(Count::default())
+            }
+            pid if pid < SPOOLER => self.submit(rt, proc),
+            _ => self.print(rt, proc),
+        }
     }
 }
 
@@ -164,13 +171,7 @@ impl<'o, R: Wait + Now> Job<R> for Places<'o> {
     type Out = Outcome;
 
     fn run(mut self, rt: &R, proc: &mut Proc<'_>) -> Outcome {
-        match proc.pid().0 {
-            SPOOLER => self.spool(rt, proc),
-            OPERATOR => self.operate(rt, proc),
-            TICKER => self.tick(rt, proc),
-            pid if pid < SPOOLER => self.submit(rt, proc),
-            _ => self.print(rt, proc),
-        }
+        self.work(rt, proc)
     }
 }
 
@@ -249,6 +250,18 @@ struct Objects {
     time: RealTime,
 }
 
+fn equip<R: Now>(rt: &R, alloc: Global, roster: &mut Roster<'_>) -> Result<Objects, Fault> {
+    let seats = TICKER + 1;
+    Ok(Objects {
+        jobs: Messages::new(alloc, roster, 4, 2 * seats)?,
+        printing: Messages::new(alloc, roster, 1, 2 * seats)?,
+        free: Semaphore::new(alloc, roster, PRINTERS as u32, seats)?,
+        window: Space::new(alloc, roster, seats)?,
+        clock: Clock::new(alloc, seats)?,
+        time: RealTime::new(rt),
+    })
+}
+
 fn open<R: Threads + Wait + Now + Sync>(
     rt: &R,
     alloc: Global,
@@ -264,8 +277,7 @@ fn open<R: Threads + Wait + Now + Sync>(
         time: &objects.time,
         desk: started.roster.rendez()?,
     };
-    let supervisor = &mut Supervisor { places, ended: 0 };
-    run_all(rt, alloc, supervisor, started)
+    run_all(rt, alloc, &mut Supervisor { places, ended: 0 }, started)
 }
 
 fn run<R: Threads + Wait + Now + Sync>(rt: &R, alloc: Global) -> Totals {
@@ -274,15 +286,7 @@ fn run<R: Threads + Wait + Now + Sync>(rt: &R, alloc: Global) -> Totals {
     let plan = plan.semaphore(seats).space(seats).team(TICKER);
     let OpenedKernel { kernel, start } = plan.build(alloc)?;
     let mut started = kernel.start(start);
-    let roster = &mut started.roster;
-    let mut objects = Objects {
-        jobs: Messages::new(alloc, roster, 4, 2 * seats)?,
-        printing: Messages::new(alloc, roster, 1, 2 * seats)?,
-        free: Semaphore::new(alloc, roster, PRINTERS as u32, seats)?,
-        window: Space::new(alloc, roster, seats)?,
-        clock: Clock::new(alloc, seats)?,
-        time: RealTime::new(rt),
-    };
+    let mut objects = equip(rt, alloc, &mut started.roster)?;
     open(rt, alloc, &mut objects, &mut started)
 }
 
@@ -292,8 +296,7 @@ fn main(rt: HostRuntime) -> std::io::Result<()> {
         Err(fault) => return println!(rt; "the spooler failed: {}", FaultText(fault)),
     };
     let did = ["answered", "handed on", "printed", "cancelled"];
-    for (did, count) in did.iter().zip(counts) {
-        let Count { documents, pages } = count;
+    for (did, Count { documents, pages }) in did.iter().zip(counts) {
         println!(rt; "documents {did}: {documents}, of {pages} pages")?;
     }
     Ok(())
