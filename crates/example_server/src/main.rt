@@ -181,8 +181,11 @@ fn open<'o, R: Threads + Wait + Sync>(
 
 /// A pipe goes both ways; here one way of each is used.
 fn run<R: Threads + Wait + Sync>(rt: &R, alloc: Global) -> Result<Vec<u64>, Fault> {
-    let plan = Plan::new().queue(CLIENTS + 2).team(CLIENTS + 1);
-    let OpenedKernel { kernel, start } = plan.rendez(4 * CLIENTS).build(alloc)?;
+    let plan = Plan::new()
+        .queue(CLIENTS + 2)
+        .pipes(CLIENTS, 1)
+        .team(CLIENTS + 1);
+    let OpenedKernel { kernel, start } = plan.build(alloc)?;
     let mut started = kernel.start(start);
     let roster = &mut started.roster;
     let mut queue = Messages::new(alloc, roster, 2, CLIENTS + 2)?;

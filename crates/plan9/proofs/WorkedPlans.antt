@@ -2,6 +2,7 @@
 use Rattle.std.proofs.Common.{◌≡◌, ◌<◌, ◌≤◌, ◌+◌, ℕ, arith}
 use Rattle.sync_base.specs.declared.limits.TheConstants.{MAX_PROCS, MAX_RENDEZ}
 use Rattle.plan9.specs.Plans.{Planned, IsPlan, CountsProcs, CountsProcsAlone, CountsRendez, Seats}
+use Rattle.plan9.specs.Plans.{CountsPipes}
 
 -- so many processes and Rendez
 abbrev counted : ℕ → ℕ → Planned
@@ -52,6 +53,14 @@ an_object_takes_no_process_away seats =
 an_object_wants_a_rendez_for_each : ¬ Seats 2 (counted 2 0) (counted 2 1)
 an_object_wants_a_rendez_for_each seats =
     let two = seats.rendez.more (omega arith) in omega (arith, two)
+
+many_pipes_want_the_rendez_of_each : ¬ CountsPipes 3 2 (counted 3 0) (counted 3 6)
+many_pipes_want_the_rendez_of_each counts =
+    let all = counts.rendez.more (omega arith) in omega (arith, all)
+
+pipes_want_a_process_for_each_writer_and_the_reader : ¬ CountsPipes 1 2 (counted 1 0) (counted 2 6)
+pipes_want_a_process_for_each_writer_and_the_reader counts =
+    let three = counts.procs.more (omega arith) (omega arith) in omega (arith, three)
 
 who_wants_more_gets_them : ¬ CountsProcs 3 (counted 1 0) (counted 1 0)
 who_wants_more_gets_them counts =

@@ -1,5 +1,6 @@
 -- What a plan of a kernel counts. Own.
-use Rattle.std.specs.Prelude.{◌≡◌, ◌==◌, ◌≤◌, ◌<◌, ◌+◌, ℕ, if◌then◌else◌}
+use Rattle.std.specs.Prelude.{◌≡◌, ◌==◌, ◌≤◌, ◌<◌, ◌+◌, ◌*◌, ℕ, if◌then◌else◌}
+use Rattle.pipe_dev.specs.Openings.{rendez_for}
 use Rattle.sync_base.specs.declared.limits.TheConstants.{MAX_PROCS, MAX_RENDEZ}
 
 -- this many processes and Rendez
@@ -33,6 +34,11 @@ pub record CountsRendez (count : ℕ) (old new : Planned) : Type 0 where
 pub record Seats (count : ℕ) (old new : Planned) : Type 0 where
   pub procs : CountsProcs count old new
   pub rendez : CountsRendez count old new
+
+-- this many pipes, with this many writers in each direction, and the processes of one direction
+pub record CountsPipes (count writers : ℕ) (old new : Planned) : Type 0 where
+  pub procs : CountsProcs (1 + writers) old new
+  pub rendez : CountsRendez (count * rendez_for writers) old new
 
 -- a kernel has at least one Rendez
 abbrev pub at_least_one : ℕ → ℕ

@@ -33,8 +33,7 @@ impl Plan {
     ghost use Rattle.rendez_words.specs.Words.{procs_of, rendez_of};
     ghost use Rattle.sleep_core.specs.Limits.{IsWorldSize, WhyNoWorld};
     ghost use Rattle.sleep_wakeup.specs.Starts.{IsStartOf};
-    ghost use Rattle.pipe_dev.specs.Openings.{rendez_for};
-    ghost use Rattle.plan9.specs.Plans.{CountsProcs, CountsProcsAlone, CountsRendez, Seats};
+    ghost use Rattle.plan9.specs.Plans.{CountsPipes, CountsProcsAlone, CountsRendez, Seats};
     ghost use Rattle.plan9.specs.Plans.{at_least_one};
 
     /// A plan of one process. Takes no memory and doesn't wait.
@@ -90,14 +89,19 @@ impl Plan {
     /// A pipe with this many writers in each direction, and a process for each writer and for the
     /// reader of one direction. Takes no memory and doesn't wait.
     pub fn pipe(self, writers: u64) -> Plan
-        ensures procs { CountsProcs (1 + writers) self result }
-        ensures rendez { CountsRendez (rendez_for writers) self result }
+        ensures { CountsPipes 1 writers self result }
     {
-        if writers > MAX_RENDEZ {
-            self.processes(MAX_PROCS + 1).rendez(MAX_RENDEZ + 1)
-        } else {
-            self.processes(1 + writers).rendez(2 * (1 + writers))
-        }
+        self.pipes(1, writers)
+    }
+
+    /// This many pipes with this many writers in each direction, and as many processes as for one
+    /// of them. Takes no memory and doesn't wait.
+    pub fn pipes(self, count: u64, writers: u64) -> Plan
+        ensures { CountsPipes count writers self result }
+    {
+        let procs = writers.saturating_add(1);
+        let rendez = procs.saturating_mul(2);
+        self.processes(procs).rendez(count.saturating_mul(rendez))
     }
 
     /// A queue of values for this many senders and receivers together, each a process. Takes no
@@ -113,11 +117,8 @@ impl Plan {
     pub fn team(self, jobs: u64) -> Plan
         ensures { Seats (1 + jobs) self result }
     {
-        if jobs > MAX_RENDEZ {
-            self.processes(MAX_PROCS + 1).rendez(MAX_RENDEZ + 1)
-        } else {
-            self.processes(1 + jobs).rendez(1 + jobs)
-        }
+        let seats = jobs.saturating_add(1);
+        self.processes(seats).rendez(seats)
     }
 
     /// A tag space of this many members, each a process. Takes no memory and doesn't
