@@ -9,7 +9,7 @@ from explored.searching import can_end
 EXPLORER, REPLAY = f"{TOP}/crates/p9explore/out/p9explore", f"{TOP}/crates/p9sync/out/p9sync"
 SECONDS = 120
 LANE = "|" + 15 * " "
-STATUS = {"ends": 0, "fault": 1, "stuck": 3, "too many": 4, "caught": 5}
+STATUS = {"ends": 0, "fault": 1, "stuck": 3, "too many": 4, "caught": 5, "reached": 6}
 OTHERS = {True: "some schedules end", False: "no schedule ends"}
 # What the words after the process are that may have names, and how many words a line of a step has at most: a line of who waits
 # begins with a process, whose name may be one of these.
