@@ -7,10 +7,12 @@ from explored.answers import OTHERS, STATUS, run, shown
 WORLD, WAITS = re.compile(r"world \d+ \d+"), re.compile(r"\S+ (waits for|sleeps in) ")
 
 
-def steps_of(lines):
+def steps_of(program, lines):
     """The lines of a schedule that are steps. What follows them says who waits, and which calls were refused."""
     if lines and WORLD.fullmatch(lines[0]):
-        return shown(lines[1:])[0]
+        lines = lines[1:]
+        if program.names:
+            return shown(lines)[0]
     count = next((at for at, line in enumerate(lines) if WAITS.match(line) or line.startswith("refused: ")), len(lines))
     return lines[:count]
 
@@ -18,7 +20,7 @@ def steps_of(lines):
 def says_otherwise(program, found, *words):
     """Where p9explore with these words differs from this search of the same program, or None."""
     status, out, err = run(program.script(), *words)
-    if status not in (STATUS[verdict] for verdict in found.verdicts):
+    if status not in (STATUS[verdict.split(" ")[0]] for verdict in found.verdicts):
         return f"it is {found.verdict}, and p9explore ends with {status}: {err}"
     states, verdict, *lines = out.splitlines()
     if verdict not in found.verdicts or not found.counts(int(states.split(" ")[1])):
@@ -28,7 +30,7 @@ def says_otherwise(program, found, *words):
     others, *lines = lines
     if others != OTHERS[found.ends]:
         return f"of other schedules it says {others}"
-    steps = steps_of(lines)
+    steps = steps_of(program, lines)
     return None if len(steps) == found.steps else f"its schedule has {len(steps)} steps, and the shortest has {found.steps}"
 
 
