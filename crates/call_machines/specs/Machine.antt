@@ -10,8 +10,8 @@ use Rattle.sync_base.specs.declared.note.NoteSet.{NoteSet}
 pub data Next (Request Out : Type 0) : Type 0 where
   -- it asks its device this
   Ask : Request → Next Request Out
-  -- it sleeps in the Rendez of its process until the level there is above this number
-  Sleep : ℕ → Next Request Out
+  -- it sleeps in this Rendez until the level there is above this number
+  Sleep : RendezId → ℕ → Next Request Out
   -- it wakes this Rendez with this level
   Wake : RendezId → ℕ → Next Request Out
   -- it posts these notes to its own process again

@@ -1,6 +1,6 @@
 //! What holds of every run of the library's calls, whatever the machines and the object are. Each
 //! law is a function that does nothing: its contract is the law.
-ghost use Rattle.std.specs.Prelude.{◌≡◌, ℕ, Bool, true};
+ghost use Rattle.std.specs.Prelude.{◌≡◌, Bool, true};
 ghost use Rattle.call_machines.specs.Ends.{EndsHold};
 ghost use Rattle.call_machines.specs.Grain.{RunsAreMoves};
 ghost use Rattle.call_machines.specs.GrainEnds.{
@@ -80,13 +80,13 @@ pub fn coarse_ends_hold<A, Q, R, O, T>()
 
 /// Where an object's wakeups are due, the object alone says who may go on.
 pub fn object_ends_hold<A, Q, R, O, T>()
-    ensures { (system : System A Q R O T) → (goes : T → ℕ → Bool)
-        → ObjectEndsHold system (λ object pid. goes object pid ≡ true) }
+    ensures { (system : System A Q R O T) → (goes : T → A → Bool)
+        → ObjectEndsHold system (λ object at. goes object at ≡ true) }
 {}
 
 /// Where besides each call that sleeps asks again, and in vain where it was woken too early, runs
 /// may be left out in which a wait ends well before the object lets its process go on.
 pub fn strict_ends_hold<A, Q, R, O, T>()
-    ensures { (system : System A Q R O T) → (goes : T → ℕ → Bool)
-        → StrictEndsHold system (λ object pid. goes object pid ≡ true) }
+    ensures { (system : System A Q R O T) → (goes : T → A → Bool)
+        → StrictEndsHold system (λ object at. goes object at ≡ true) }
 {}

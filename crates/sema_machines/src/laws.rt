@@ -29,10 +29,10 @@ pub fn calls_in_runs_are_as_promised()
 /// in vain. So no run of the calls deadlocks, if each run at the grain of calls that comes to where
 /// each process has made its calls or waits without a unit has made all calls. Runs need not be
 /// looked at in which a sleep is refused, or a wait ends well before its unit is granted.
-pub fn units_are_due()
-    ensures due { UnitsAreDue }
-    ensures vain { WaitsAskInVain }
-    ensures ends { SemaphoreEndsHold }
+pub fn units_are_due<P>()
+    ensures due { UnitsAreDue P }
+    ensures vain { WaitsAskInVain P }
+    ensures ends { SemaphoreEndsHold P }
 {
     who_is_granted_is_released();
     states_are_sound();

@@ -13,8 +13,8 @@ pub fn calls_are_plays()
 /// vain. So no run of the calls deadlocks, if each run at the grain of calls that comes to where
 /// each process has made its calls or waits without a partner has made all calls. Runs need not be
 /// looked at in which a sleep is refused, or a wait ends well before its call was met.
-pub fn meetings_are_due()
-    ensures due { MeetingsAreDue }
-    ensures vain { WaitsAskInVain }
-    ensures ends { SpaceEndsHold }
+pub fn meetings_are_due<P>()
+    ensures due { MeetingsAreDue P }
+    ensures vain { WaitsAskInVain P }
+    ensures ends { SpaceEndsHold P }
 {}
