@@ -18,9 +18,9 @@ module _ {At Request Reply Out Object : Type 0} (system : System At Request Repl
   abbrev pub ComesOf : Next Request Out → Grain Request Reply → Type 0
   ComesOf (Next.Ask other) (Heard request reply) =
       (other ≡ request) × (reply ≡ system.answer object request)
-  ComesOf (Next.Sleep number) Woken = ⊤
-  ComesOf (Next.Sleep number) (Noted set) = ⊤
-  ComesOf (Next.Sleep number) (Refused why) = ⊤
+  ComesOf (Next.Sleep rendez number) Woken = ⊤
+  ComesOf (Next.Sleep rendez number) (Noted set) = ⊤
+  ComesOf (Next.Sleep rendez number) (Refused why) = ⊤
   ComesOf (Next.Wake other level) Went = ⊤
   ComesOf (Next.Return set) (Returned other) = ⊤
   ComesOf does grain = ⊥
@@ -29,9 +29,9 @@ module _ {At Request Reply Out Object : Type 0} (system : System At Request Repl
   pub comes_of : (does : Next Request Out) (grain : Grain Request Reply)
       → May system object notes does grain → ComesOf does grain
   comes_of (Next.Ask other) (Heard request reply) may = (let is = may.0 in cc, may.1)
-  comes_of (Next.Sleep number) Woken may = tt
-  comes_of (Next.Sleep number) (Noted set) may = tt
-  comes_of (Next.Sleep number) (Refused why) may = tt
+  comes_of (Next.Sleep rendez number) Woken may = tt
+  comes_of (Next.Sleep rendez number) (Noted set) may = tt
+  comes_of (Next.Sleep rendez number) (Refused why) may = tt
   comes_of (Next.Wake other level) Went may = tt
   comes_of (Next.Return set) (Returned other) may = tt
   comes_of does (Heard request reply) may = absurd (let is = may.0 in cc)

@@ -27,11 +27,11 @@ module _ {At Request Reply Out Object : Type 0} (system : System At Request Repl
       stuck : IsStuck system (position_of system (makers_of run))
       stuck other there =
           subst (λ (w : State). HasEnded (system.machine.does (state_of system at other))
-          ⊎ IsParked w (event_for other (system.own other) (phase_of at.world other)
+          ⊎ IsParked w (event_for other (phase_of at.world other)
           (system.machine.does (state_of system at other)))) (sym so.tracks.world)
           (subst (λ (o : OwnState system.machine). HasEnded (system.machine.does o.at)
           ⊎ IsParked (world_at system run)
-          (event_for other (system.own other) o.stage (system.machine.does o.at)))
+          (event_for other o.stage (system.machine.does o.at)))
           (so.tracks.own other) (stopped other there))
         where
           at : Position system

@@ -55,19 +55,18 @@ InWakePhase to high (phase.Holding sleeper rendez level) = (rendez ≡ to) × (l
 InWakePhase to high stage = ⊥
 
 -- the phase is one of what the machine does
-abbrev pub InPhase : {Request Out : Type 0} → RendezId → Next Request Out → Phase → Type 0
-InPhase own (Next.Sleep number) stage = InSleepPhase own number stage
-InPhase own (Next.Wake rendez level) stage = InWakePhase rendez level stage
-InPhase own other stage = stage ≡ phase.Idle
+abbrev pub InPhase : {Request Out : Type 0} → Next Request Out → Phase → Type 0
+InPhase (Next.Sleep rendez number) stage = InSleepPhase rendez number stage
+InPhase (Next.Wake rendez level) stage = InWakePhase rendez level stage
+InPhase other stage = stage ≡ phase.Idle
 
 -- whatever a machine does next, its process may be idle
-pub idle_fits : {Request Out : Type 0} (own : RendezId) (n : Next Request Out)
-    → InPhase own n phase.Idle
-idle_fits own (Next.Sleep number) = tt
-idle_fits own (Next.Wake rendez level) = tt
-idle_fits own (Next.Ask request) = refl
-idle_fits own (Next.Return set) = refl
-idle_fits own (Next.Over answer) = refl
+pub idle_fits : {Request Out : Type 0} (n : Next Request Out) → InPhase n phase.Idle
+idle_fits (Next.Sleep rendez number) = tt
+idle_fits (Next.Wake rendez level) = tt
+idle_fits (Next.Ask request) = refl
+idle_fits (Next.Return set) = refl
+idle_fits (Next.Over answer) = refl
 
 -- ---- phases after events
 
@@ -107,7 +106,7 @@ note_idle answer.Posted p set = refl
 note_idle told p set = refl
 
 module _ {At Request Reply Out Object : Type 0} (system : System At Request Reply Out Object)
-    (object : Object) (s : State) (pid : ℕ) (own : RendezId) where
+    (object : Object) (s : State) (pid : ℕ) where
   -- levels that are so low stay it
   abbrev pub LowIn : List ℕ → State → Type 0
   LowIn levels state =
@@ -123,7 +122,7 @@ module _ {At Request Reply Out Object : Type 0} (system : System At Request Repl
     -- its process is still in what it does
     pub busy : is_idle stage ≡ false
     -- and in a phase of it
-    pub fits : InPhase own n stage
+    pub fits : InPhase n stage
     -- the notes of all processes stay
     pub notes : NotesKept s (world_after s event)
 
@@ -162,9 +161,9 @@ module _ {At Request Reply Out Object : Type 0} (system : System At Request Repl
       let new = returned_rises s event r in
       omega arith
 
-  sleeps_on : (number : ℕ) (event : Event) (stage : Phase) → GoesOn own number stage
-      → NotesKept s (world_after s event) → IsNone (Next.Sleep number) event stage
-  sleeps_on number event stage goes kept =
+  sleeps_on : (own : RendezId) (number : ℕ) (event : Event) (stage : Phase) → GoesOn own number stage
+      → NotesKept s (world_after s event) → IsNone (Next.Sleep own number) event stage
+  sleeps_on own number event stage goes kept =
       record { busy = goes.0; fits = goes.1; notes = kept }
 
   abbrev post_said : Bool → Bool → Bool → Bool → Answer
@@ -175,43 +174,43 @@ module _ {At Request Reply Out Object : Type 0} (system : System At Request Repl
       else answer.NoRendez)
       else answer.NoProc
 
-  post_so : (number : ℕ) (there cell top free : Bool)
+  post_so : (own : RendezId) (number : ℕ) (there cell top free : Bool)
       → NotesKept s (world_after s (Post (proc pid) own number))
-      → ComesTo (Next.Sleep number) phase.Idle (Post (proc pid) own number)
+      → ComesTo (Next.Sleep own number) phase.Idle (Post (proc pid) own number)
       (post_said there cell top free)
-  post_so number true true false true kept =
+  post_so own number true true false true kept =
       inl (record { busy = refl; fits = (refl, refl); notes = kept })
-  post_so number true true true free kept =
+  post_so own number true true true free kept =
       inr (record {
         over = refl;
-        may = (number, refl, tt);
+        may = (own, number, refl, tt);
         hears = refl;
         ours = kept pid;
         others = λ p away. kept p;
         levels = stays_low (Post (proc pid) own number);
       })
-  post_so number true true false false kept =
+  post_so own number true true false false kept =
       inr (record {
         over = refl;
-        may = (number, refl, tt);
+        may = (own, number, refl, tt);
         hears = refl;
         ours = kept pid;
         others = λ p away. kept p;
         levels = stays_low (Post (proc pid) own number);
       })
-  post_so number true false top free kept =
+  post_so own number true false top free kept =
       inr (record {
         over = refl;
-        may = (number, refl, tt);
+        may = (own, number, refl, tt);
         hears = refl;
         ours = kept pid;
         others = λ p away. kept p;
         levels = stays_low (Post (proc pid) own number);
       })
-  post_so number false cell top free kept =
+  post_so own number false cell top free kept =
       inr (record {
         over = refl;
-        may = (number, refl, tt);
+        may = (own, number, refl, tt);
         hears = refl;
         ours = kept pid;
         others = λ p away. kept p;
@@ -219,25 +218,25 @@ module _ {At Request Reply Out Object : Type 0} (system : System At Request Repl
       })
 
   -- a sleep is over
-  clear_so : (number : ℕ) (stage : Phase) (some : Bool) → has_notes (flags_of s pid).notes ≡ some
+  clear_so : (own : RendezId) (number : ℕ) (stage : Phase) (some : Bool) → has_notes (flags_of s pid).notes ≡ some
       → (flags_of (world_after s (Clear (proc pid))) pid).notes ≡ no_notes
       → ((p : ℕ) → p ≢ pid
       → (flags_of (world_after s (Clear (proc pid))) p).notes ≡ (flags_of s p).notes)
-      → ComesTo (Next.Sleep number) stage (Clear (proc pid))
+      → ComesTo (Next.Sleep own number) stage (Clear (proc pid))
       (if some then answer.Interrupted (flags_of s pid).notes else answer.Cleared)
-  clear_so number stage true is own_notes others =
+  clear_so own number stage true is own_notes others =
       inr (record {
         over = refl;
-        may = (number, refl, is, refl);
+        may = (own, number, refl, is, refl);
         hears = refl;
         ours = own_notes;
         others = others;
         levels = stays_low (Clear (proc pid));
       })
-  clear_so number stage false is own_notes others =
+  clear_so own number stage false is own_notes others =
       inr (record {
         over = refl;
-        may = (number, refl, is);
+        may = (own, number, refl, is);
         hears = refl;
         ours = own_notes ∙ sym (no_notes_at_all (flags_of s pid).notes is);
         others = others;
@@ -246,54 +245,54 @@ module _ {At Request Reply Out Object : Type 0} (system : System At Request Repl
 
   module _ (there : IsThere s pid) (sized : length s.returned ≡ system.rendez)
       (posted : length s.posted ≡ system.rendez) where
-    cleared : (number : ℕ) (stage : Phase) → phase_of s pid ≡ stage
+    cleared : (own : RendezId) (number : ℕ) (stage : Phase) → phase_of s pid ≡ stage
         → (stage ≡ phase.Woken) ⊎ (stage ≡ phase.Out)
-        → ComesTo (Next.Sleep number) stage (Clear (proc pid)) (answer_to s (Clear (proc pid)))
-    cleared number stage at is =
-        subst (ComesTo (Next.Sleep number) stage (Clear (proc pid)))
+        → ComesTo (Next.Sleep own number) stage (Clear (proc pid)) (answer_to s (Clear (proc pid)))
+    cleared own number stage at is =
+        subst (ComesTo (Next.Sleep own number) stage (Clear (proc pid)))
         (sym (clear_told s pid stage there at is))
-        (clear_so number stage (has_notes (flags_of s pid).notes) refl
+        (clear_so own number stage (has_notes (flags_of s pid).notes) refl
         (own_flags s (world_after s (Clear (proc pid))) pid no_flags there row)
         (others_flags s (world_after s (Clear (proc pid))) pid no_flags there row))
       where
         row : (world_after s (Clear (proc pid))).flags ≡ slice_set s.flags pid no_flags
         row = clear_flags s pid stage there at is
 
-    by_sleep : (number : ℕ) (stage : Phase) → phase_of s pid ≡ stage
+    by_sleep : (own : RendezId) (number : ℕ) (stage : Phase) → phase_of s pid ≡ stage
         → InSleepPhase own number stage
-        → ComesTo (Next.Sleep number) stage (event_in pid stage (core.Sleep own number))
+        → ComesTo (Next.Sleep own number) stage (event_in pid stage (core.Sleep own number))
         (answer_to s (event_in pid stage (core.Sleep own number)))
-    by_sleep number phase.Idle at fits =
-        subst (ComesTo (Next.Sleep number) phase.Idle (Post (proc pid) own number))
+    by_sleep own number phase.Idle at fits =
+        subst (ComesTo (Next.Sleep own number) phase.Idle (Post (proc pid) own number))
         (sym (ap (λ (p : Phase). if nat_lt pid (length s.phases)
         then answer_in s p (Post (proc pid) own number) else answer.NoProc) at))
-        (post_so number (nat_lt pid (length s.phases)) (nat_lt own.0 (length s.posted))
+        (post_so own number (nat_lt pid (length s.phases)) (nat_lt own.0 (length s.posted))
         (number == TOP_LEVEL) (posted_of s own.0 == nobody)
         (quiet_after s (Post (proc pid) own number) tt))
-    by_sleep number (phase.Posted r t) at fits =
-        inl (sleeps_on number (Test (proc pid)) (phase_after (answer_to s (Test (proc pid)))
+    by_sleep own number (phase.Posted r t) at fits =
+        inl (sleeps_on own number (Test (proc pid)) (phase_after (answer_to s (Test (proc pid)))
         (Test (proc pid)) (phase.Posted r t))
         (test_on own number (proc pid) (answer_to s (Test (proc pid))) r
         t fits) (quiet_after s (Test (proc pid)) tt))
-    by_sleep number (phase.Asleep r t) at fits =
-        inl (sleeps_on number (Look (proc pid)) (phase_after (answer_to s (Look (proc pid)))
+    by_sleep own number (phase.Asleep r t) at fits =
+        inl (sleeps_on own number (Look (proc pid)) (phase_after (answer_to s (Look (proc pid)))
         (Look (proc pid)) (phase.Asleep r t))
         (look_on own number (proc pid) (answer_to s (Look (proc pid))) r
         t fits) (quiet_after s (Look (proc pid)) tt))
-    by_sleep number (phase.Leaving r) at fits =
-        inl (sleeps_on number (Withdraw (proc pid))
+    by_sleep own number (phase.Leaving r) at fits =
+        inl (sleeps_on own number (Withdraw (proc pid))
         (phase_after (answer_to s (Withdraw (proc pid))) (Withdraw (proc pid)) (phase.Leaving r))
         (withdraw_on own number (proc pid) (answer_to s (Withdraw (proc pid))) r fits)
         (quiet_after s (Withdraw (proc pid)) tt))
-    by_sleep number phase.Awaiting at fits =
-        inl (sleeps_on number (Look (proc pid)) (phase_after (answer_to s (Look (proc pid)))
+    by_sleep own number phase.Awaiting at fits =
+        inl (sleeps_on own number (Look (proc pid)) (phase_after (answer_to s (Look (proc pid)))
         (Look (proc pid)) phase.Awaiting)
         (await_on own number (proc pid) (answer_to s (Look (proc pid))))
         (quiet_after s (Look (proc pid)) tt))
-    by_sleep number phase.Woken at fits = cleared number phase.Woken at (inl refl)
-    by_sleep number phase.Out at fits = cleared number phase.Out at (inr refl)
-    by_sleep number (phase.Owing r l) at fits = absurd fits
-    by_sleep number (phase.Holding q r l) at fits = absurd fits
+    by_sleep own number phase.Woken at fits = cleared own number phase.Woken at (inl refl)
+    by_sleep own number phase.Out at fits = cleared own number phase.Out at (inr refl)
+    by_sleep own number (phase.Owing r l) at fits = absurd fits
+    by_sleep own number (phase.Holding q r l) at fits = absurd fits
 
     -- ---- a wakeup
 
@@ -436,12 +435,12 @@ module _ {At Request Reply Out Object : Type 0} (system : System At Request Repl
 
     -- so each event that a machine has is one or the other
     pub each_event : (n : Next Request Out) (stage : Phase) (event : Event)
-        → phase_of s pid ≡ stage → InPhase own n stage → event_for pid own stage n ≡ Some event
+        → phase_of s pid ≡ stage → InPhase n stage → event_for pid stage n ≡ Some event
         → ComesTo n stage event (answer_to s event)
-    each_event (Next.Sleep number) stage event at fits is =
+    each_event (Next.Sleep own number) stage event at fits is =
         let same : event_in pid stage (core.Sleep own number) ≡ event = cc in
-        subst (λ (e : Event). ComesTo (Next.Sleep number) stage e (answer_to s e)) same
-        (by_sleep number stage at fits)
+        subst (λ (e : Event). ComesTo (Next.Sleep own number) stage e (answer_to s e)) same
+        (by_sleep own number stage at fits)
     each_event (Next.Wake rendez level) stage event at fits is =
         let same : event_in pid stage (core.Wakeup rendez level) ≡ event = cc in
         subst (λ (e : Event). ComesTo (Next.Wake rendez level) stage e (answer_to s e)) same

@@ -52,7 +52,7 @@ module _ {At Request Reply Out Object : Type 0} (system : System At Request Repl
 
   -- the phase of a process is of what its machine does
   abbrev pub Fits : ℕ → OwnState system.machine → Type 0
-  Fits pid own = InPhase (system.own pid) (system.machine.does own.at) own.stage
+  Fits pid own = InPhase (system.machine.does own.at) own.stage
 
   -- the moves are right, and leave what the run leaves; each phase is of what its machine does
   pub record Fine (moves : List (Move Request Reply)) (run : List (Step Request Reply)) : Type 0
@@ -193,9 +193,9 @@ module _ {At Request Reply Out Object : Type 0} (system : System At Request Repl
             notes = length-set at.notes pid set ∙ fine.notes;
             phases = each (λ p. Fits p (own_in system p (step ∷ past)))
                 (subst (Fits pid) (sym own_now)
-                (subst (InPhase (system.own pid) (system.machine.does
+                (subst (InPhase (system.machine.does
                 (own_after system.machine (own_in system pid past) act).at)) (sym idle)
-                (idle_fits (system.own pid)
+                (idle_fits
                 (system.machine.does (own_after system.machine (own_in system pid past) act).at))))
                 (λ p differ. subst (Fits p) (sym (others_now p differ)) (fine.phases p));
           }
@@ -232,14 +232,14 @@ module _ {At Request Reply Out Object : Type 0} (system : System At Request Repl
   fine_after : (pid : ℕ) → pid < procs system → (act : Act Request Reply)
       → (past : List (Step Request Reply)) → IsOfCalls system past
       → Fine (moves_of system past) past
-      → IsNext system.machine pid (system.own pid) (own_in system pid past) act
+      → IsNext system.machine pid (own_in system pid past) act
       → IsAnswered system (world_at system past) (object_at system past) act
       → Fine (moves_of system (record { by = pid; act = act } ∷ past))
       (record { by = pid; act = act } ∷ past)
   fine_after pid below (Asked request reply) past of fine does told_so =
       one_move pid below (Asked request reply) past (moves_of system past) fine
       (Heard request reply) (does, told_so) refl refl
-      (subst (λ (n : Next Request Out). InPhase (system.own pid) n (own_in system pid past).stage)
+      (subst (λ (n : Next Request Out). InPhase n (own_in system pid past).stage)
       does (fine.phases pid))
       refl (λ p away. refl) (by (system.machine.does (own_in system pid past).at) does)
     where
@@ -249,10 +249,10 @@ module _ {At Request Reply Out Object : Type 0} (system : System At Request Repl
       by (Next.Ask other) is levels low = low
       by n is levels low = absurd cc
   fine_after pid below (Made event said) past of fine does told_so =
-      by (subst (ComesTo system (object_at system past) s pid (system.own pid)
+      by (subst (ComesTo system (object_at system past) s pid
       (system.machine.does own.at) own.stage event)
       (sym told_so)
-      (each_event system (object_at system past) s pid (system.own pid)
+      (each_event system (object_at system past) s pid
       (there_at system pid below past of)
       (sound.sound.returned ∙ sound.rendez_stay) sound.rendez_stay (system.machine.does own.at)
       own.stage event (stage_is system past of pid)
@@ -273,14 +273,14 @@ module _ {At Request Reply Out Object : Type 0} (system : System At Request Repl
       step : Step Request Reply
       step = record { by = pid; act = Made event said }
 
-      by : ComesTo system (object_at system past) s pid (system.own pid)
+      by : ComesTo system (object_at system past) s pid
           (system.machine.does own.at) own.stage event said
           → Fine (moves_of system (step ∷ past)) (step ∷ past)
       by (inl none) =
           subst (λ (b : Bool). Fine (with_grain system pid b (event_grain system event said)
           (moves_of system past)) (step ∷ past)) (sym none.busy)
           (no_move pid below (Made event said) past (moves_of system past) fine refl at_is
-          (subst (λ (x : At). InPhase (system.own pid) (system.machine.does x) stage) (sym at_is)
+          (subst (λ (x : At). InPhase (system.machine.does x) stage) (sym at_is)
           none.fits) none.notes
           (returned_rises s event))
         where
@@ -311,7 +311,7 @@ module _ {At Request Reply Out Object : Type 0} (system : System At Request Repl
         };
         states = refl;
         notes = length-replicate (procs system) no_notes;
-        phases = λ pid. idle_fits (system.own pid) (system.machine.does (start_of system pid));
+        phases = λ pid. idle_fits (system.machine.does (start_of system pid));
       }
   fine_run (step ∷ past) of =
       fine_after step.by of.right.1.below step.act past (front_of system step past of)

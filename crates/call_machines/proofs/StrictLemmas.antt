@@ -5,6 +5,7 @@ use Rattle.std.proofs.Common.{[], ◌∷◌, length, Ok, Err, refl, sym, ◌∙�
 use Rattle.std.proofs.lemmas.Bool.Decides.{eqb_tells}
 use Rattle.std.proofs.lemmas.List.{get_or-set_same, get_or-set_other, length-replicate, length-set}
 use Rattle.sync_base.specs.declared.fault.Fault.TheVariants as fault
+use Rattle.sync_base.specs.declared.ids.RendezId.{RendezId}
 use Rattle.sync_base.specs.declared.note.NoteSet.{NoteSet}
 use Rattle.sync_base.specs.NoteSet.{no_notes}
 use Rattle.sleep_core.specs.Table.{has_notes}
@@ -23,20 +24,21 @@ use Rattle.call_machines.specs.StrictRuns.{WaitsAskAgain, woken}
 use Rattle.call_machines.proofs.UnrefusedLemmas.{unrefused_ends_hold}
 
 module _ {At Request Reply Out Object : Type 0} (system : System At Request Reply Out Object)
-    (Goes : Object → ℕ → Type 0) (again : WaitsAskAgain system Goes) where
+    (Goes : Object → At → Type 0) (again : WaitsAskAgain system Goes) where
   -- ---- the two runs
 
   -- the strict run still sleeps, where the other was woken without notes
   record IsEarly (notes : NoteSet) (at strict : At) : Type 0 where
+    rendez : RendezId
     number : ℕ
-    sleeps : system.machine.does strict ≡ Next.Sleep number
+    sleeps : system.machine.does strict ≡ Next.Sleep rendez number
     is : at ≡ woken system strict
     quiet : has_notes notes ≡ false
 
   -- a process is in the same state in both runs, or in two waits of one call, or was woken early
   data Fits (notes : NoteSet) (at strict : At) : Type 0 where
     IsSame : at ≡ strict → Fits notes at strict
-    IsOneWait : AreOneWait system at strict → Fits notes at strict
+    IsOneWait : AreOneWait system Goes at strict → Fits notes at strict
     WasEarly : IsEarly notes at strict → Fits notes at strict
 
   record Sized (at : Coarse system) : Type 0 where
@@ -125,7 +127,7 @@ module _ {At Request Reply Out Object : Type 0} (system : System At Request Repl
       both : (grain : Grain Request Reply)
           → May system now.object (notes_of system now pid)
           (system.machine.does (at_of system now pid)) grain
-          → IsUnrefused system grain → EndsInTime system Goes now.object pid grain
+          → IsUnrefused system grain → EndsInTime system Goes now.object (at_of system now pid) grain
           → Fits (notes_by (notes_of system at pid) grain)
           (system.machine.goes_on (at_of system at pid) (outcome_by grain))
           (system.machine.goes_on (at_of system now pid) (outcome_by grain))
@@ -196,7 +198,7 @@ module _ {At Request Reply Out Object : Type 0} (system : System At Request Repl
       -- where both are in the same state
       same_both : (grain : Grain Request Reply) → old ≡ at_of system now pid
           → May system at.object (notes_of system at pid) (system.machine.does old) grain
-          → IsUnrefused system grain → EndsInTime system Goes now.object pid grain
+          → IsUnrefused system grain → EndsInTime system Goes now.object (at_of system now pid) grain
           → Strictly (after at grain)
       same_both grain same may unrefused strict =
           both grain
@@ -210,10 +212,11 @@ module _ {At Request Reply Out Object : Type 0} (system : System At Request Repl
           → IsUnrefused system grain → Strictly (after at grain)
       same_step Woken same may unrefused =
           skip Woken refl refl (WasEarly (record {
-            number = may.0;
-            sleeps = ap system.machine.does (sym same) ∙ may.1;
+            rendez = may.0;
+            number = may.1;
+            sleeps = ap system.machine.does (sym same) ∙ may.2;
             is = ap (woken system) same;
-            quiet = may.2;
+            quiet = may.3;
           }))
       same_step (Heard request reply) same may unrefused = same_both _ same may unrefused tt
       same_step (Noted set) same may unrefused = same_both _ same may unrefused tt
@@ -222,19 +225,20 @@ module _ {At Request Reply Out Object : Type 0} (system : System At Request Repl
       same_step (Returned set) same may unrefused = same_both _ same may unrefused tt
 
       -- where both sleep
-      asleep_step : (grain : Grain Request Reply) → AreOneWait system old (at_of system now pid)
+      asleep_step : (grain : Grain Request Reply) → AreOneWait system Goes old (at_of system now pid)
           → May system at.object (notes_of system at pid) (system.machine.does old) grain
           → IsUnrefused system grain → Strictly (after at grain)
       asleep_step Woken one may unrefused =
           skip Woken refl refl (WasEarly (record {
+            rendez = one.rendez;
             number = one.other_number;
             sleeps = one.other_sleeps;
             is = one.alike (Ok tt);
-            quiet = may.2;
+            quiet = may.3;
           }))
       asleep_step (Noted set) one may unrefused =
           both (Noted set)
-          (may_now _ (Noted set) (one.other_number, one.other_sleeps, may.2, may.3))
+          (may_now _ (Noted set) (one.rendez, one.other_number, one.other_sleeps, may.3, may.4))
           tt tt (IsSame (one.alike (Err (fault.Interrupted set))))
       asleep_step (Refused why) one may unrefused = absurd unrefused
       asleep_step (Heard request reply) one may unrefused =
@@ -244,14 +248,14 @@ module _ {At Request Reply Out Object : Type 0} (system : System At Request Repl
 
       -- the strict run's wait ends too, where the object lets the process go on
       catch_up : IsEarly (notes_of system at pid) old (at_of system now pid)
-          → Goes now.object pid
+          → Goes now.object (at_of system now pid)
           → (caught : Strictly at) × (old ≡ at_of system (coarse_of system caught.moves) pid)
       catch_up early goes = (
         record {
           moves = record { by = pid; grain = Woken } ∷ so.moves;
           all = (
             so.all,
-            (low, (early.number, early.sleeps, ap has_notes (so.notes pid) ∙ early.quiet)),
+            (low, (early.rendez, early.number, early.sleeps, ap has_notes (so.notes pid) ∙ early.quiet)),
           );
           unrefused = (so.unrefused, tt);
           strict = (so.strict, goes);
@@ -275,7 +279,7 @@ module _ {At Request Reply Out Object : Type 0} (system : System At Request Repl
       in_vain : (request : Request) (grain : Grain Request Reply)
           → IsEarly (notes_of system at pid) old (at_of system now pid)
           → system.machine.does (woken system (at_of system now pid)) ≡ Next.Ask request
-          → AsksInVain system now.object (at_of system now pid) request
+          → AsksInVain system Goes now.object (at_of system now pid) request
           → May system at.object (notes_of system at pid) (system.machine.does old) grain
           → Strictly (after at grain)
       in_vain request (Heard other reply) early asks vain may =
@@ -285,7 +289,7 @@ module _ {At Request Reply Out Object : Type 0} (system : System At Request Repl
           (subst (λ (o : Object). system.after o other ≡ o) so.object
           (subst (λ (r : Request). system.after now.object r ≡ now.object) same vain.stays))
           refl
-          (IsOneWait (subst (λ (s : At). AreOneWait system s (at_of system now pid))
+          (IsOneWait (subst (λ (s : At). AreOneWait system Goes s (at_of system now pid))
           (ap (λ (r : Reply). system.machine.goes_on (woken system (at_of system now pid))
           (Outcome.Replied r))
           (ap (λ (r : Request). system.answer now.object r) same
@@ -293,11 +297,11 @@ module _ {At Request Reply Out Object : Type 0} (system : System At Request Repl
           ∙ ap (λ (s : At). system.machine.goes_on s (Outcome.Replied reply)) (sym early.is))
           vain.waits))
       in_vain request Woken early asks vain may =
-          absurd (let is = sym asks ∙ (ap system.machine.does (sym early.is) ∙ may.1) in cc)
+          absurd (let is = sym asks ∙ (ap system.machine.does (sym early.is) ∙ may.2) in cc)
       in_vain request (Noted set) early asks vain may =
-          absurd (let is = sym asks ∙ (ap system.machine.does (sym early.is) ∙ may.1) in cc)
+          absurd (let is = sym asks ∙ (ap system.machine.does (sym early.is) ∙ may.2) in cc)
       in_vain request (Refused why) early asks vain may =
-          absurd (let is = sym asks ∙ (ap system.machine.does (sym early.is) ∙ may.1) in cc)
+          absurd (let is = sym asks ∙ (ap system.machine.does (sym early.is) ∙ may.2) in cc)
       in_vain request Went early asks vain may =
           absurd (let is = sym asks ∙ (ap system.machine.does (sym early.is) ∙ may.2) in cc)
       in_vain request (Returned set) early asks vain may =
@@ -314,12 +318,12 @@ module _ {At Request Reply Out Object : Type 0} (system : System At Request Repl
         strict_at = at_of system (coarse_of system so.moves) pid
 
         of : (early : IsEarly (notes_of system at pid) (at_of system at pid) strict_at)
-            → AsksAgain system Goes (coarse_of system so.moves).object pid strict_at
+            → AsksAgain system Goes (coarse_of system so.moves).object strict_at
             → Strictly (after at grain)
         of early asks = comes asks.comes
           where
-            comes : Goes (coarse_of system so.moves).object pid
-                ⊎ AsksInVain system (coarse_of system so.moves).object strict_at asks.request
+            comes : Goes (coarse_of system so.moves).object strict_at
+                ⊎ AsksInVain system Goes (coarse_of system so.moves).object strict_at asks.request
                 → Strictly (after at grain)
             comes (inl goes) =
                 let caught = catch_up so early goes in
@@ -330,7 +334,7 @@ module _ {At Request Reply Out Object : Type 0} (system : System At Request Repl
             → Strictly (after at grain)
         by (IsSame same) = same_step so grain same may unrefused
         by (IsOneWait one) = asleep_step so grain one may unrefused
-        by (WasEarly early) = of early (again so.moves so.all pid early.number low early.sleeps)
+        by (WasEarly early) = of early (again so.moves so.all pid early.rendez early.number low early.sleeps)
 
   -- ---- all moves
 
@@ -371,24 +375,30 @@ module _ {At Request Reply Out Object : Type 0} (system : System At Request Repl
         (at_of system last pid))
         → (request : Request) × (system.machine.does (at_of system at pid) ≡ Next.Ask request)
     asks_on early =
-        let asks = again so.moves so.all pid early.number low early.sleeps in
+        let asks = again so.moves so.all pid early.rendez early.number low early.sleeps in
         (asks.request, ap system.machine.does early.is ∙ asks.asks)
 
-    not_over : (does : Next Request Out) (number : ℕ) → does ≡ Next.Sleep number → HasEnded does → ⊥
-    not_over does number is ends = subst HasEnded is ends
+    not_over : (does : Next Request Out) (rendez : RendezId) (number : ℕ)
+        → does ≡ Next.Sleep rendez number → HasEnded does → ⊥
+    not_over does rendez number is ends = subst HasEnded is ends
 
     stuck_so : HasEnded (system.machine.does (at_of system at pid)) ⊎ WaitsBy system Goes at pid
         → HasEnded (system.machine.does (at_of system last pid)) ⊎ WaitsBy system Goes last pid
     stuck_so = by (so.states pid)
       where
-        waits : (number : ℕ) → system.machine.does (at_of system last pid) ≡ Next.Sleep number
+        waits : (rendez : RendezId) (number : ℕ)
+            → system.machine.does (at_of system last pid) ≡ Next.Sleep rendez number
+            → ((object : Object) → Goes object (at_of system last pid)
+            → Goes object (at_of system at pid))
             → WaitsBy system Goes at pid → WaitsBy system Goes last pid
-        waits number sleeps on =
+        waits rendez number sleeps go on =
             record {
+              rendez = rendez;
               number = number;
               does = sleeps;
               none = ap has_notes (so.notes pid) ∙ on.none;
-              stays = λ goes. on.stays (subst (λ (o : Object). Goes o pid) so.object goes);
+              stays = λ goes. on.stays (go at.object (subst (λ (o : Object).
+                  Goes o (at_of system last pid)) so.object goes));
             }
 
         by : Fits (notes_of system at pid) (at_of system at pid) (at_of system last pid)
@@ -397,9 +407,11 @@ module _ {At Request Reply Out Object : Type 0} (system : System At Request Repl
         by (IsSame same) (inl ends) =
             inl (subst (λ (s : At). HasEnded (system.machine.does s)) same ends)
         by (IsSame same) (inr on) =
-            inr (waits on.number (sym (ap system.machine.does same) ∙ on.does) on)
-        by (IsOneWait one) (inl ends) = absurd (not_over _ one.number one.sleeps ends)
-        by (IsOneWait one) (inr on) = inr (waits one.other_number one.other_sleeps on)
+            inr (waits on.rendez on.number (sym (ap system.machine.does same) ∙ on.does)
+            (λ o goes. subst (Goes o) (sym same) goes) on)
+        by (IsOneWait one) (inl ends) = absurd (not_over _ one.rendez one.number one.sleeps ends)
+        by (IsOneWait one) (inr on) =
+            inr (waits one.rendez one.other_number one.other_sleeps one.go on)
         by (WasEarly early) (inl ends) = absurd (subst HasEnded (asks_on early).1 ends)
         by (WasEarly early) (inr on) =
             absurd (let is = sym (asks_on early).1 ∙ on.does in cc)
@@ -411,8 +423,9 @@ module _ {At Request Reply Out Object : Type 0} (system : System At Request Repl
         by : Fits (notes_of system at pid) (at_of system at pid) (at_of system last pid)
             → HasEnded (system.machine.does (at_of system at pid))
         by (IsSame same) = subst (λ (s : At). HasEnded (system.machine.does s)) (sym same) ends
-        by (IsOneWait one) = absurd (not_over _ one.other_number one.other_sleeps ends)
-        by (WasEarly early) = absurd (not_over _ early.number early.sleeps ends)
+        by (IsOneWait one) =
+            absurd (not_over _ one.rendez one.other_number one.other_sleeps ends)
+        by (WasEarly early) = absurd (not_over _ early.rendez early.number early.sleeps ends)
 
   -- runs with waits that end too early may be left out
   all_ends : NeverStrictlyStuck system Goes
@@ -428,7 +441,7 @@ module _ {At Request Reply Out Object : Type 0} (system : System At Request Repl
 
 -- and so may refused sleeps
 pub strict_ends_hold : {At Request Reply Out Object : Type 0}
-    (system : System At Request Reply Out Object) (Goes : Object → ℕ → Type 0)
+    (system : System At Request Reply Out Object) (Goes : Object → At → Type 0)
     → StrictEndsHold system Goes
 strict_ends_hold system Goes apart below due again never =
     unrefused_ends_hold system apart below (λ moves all unrefused stuck.
@@ -444,6 +457,7 @@ strict_ends_hold system Goes apart below due again never =
     by moves all stuck pid low (inl ends) = inl ends
     by moves all stuck pid low (inr on) =
         inr (record {
+          rendez = on.rendez;
           number = on.number;
           does = on.does;
           none = on.none;

@@ -1,7 +1,8 @@
 -- The rows of the definitions, one by one, and what each forbids.
-use Rattle.std.proofs.Common.{◌≡◌, ◌<◌, ℕ, Bool, true, false, Option, Some, None, [], ◌∷◌, Ok}
-use Rattle.std.proofs.Common.{Err, refl, ap, arith}
+use Rattle.std.proofs.Common.{◌≡◌, ◌<◌, ℕ, zero, suc, Bool, true, false, Option, Some, None, [], ◌∷◌}
+use Rattle.std.proofs.Common.{Result, Ok, Err, refl, ap, arith}
 use Rattle.std.specs.Prelude.{⊤}
+use Rattle.sync_base.specs.declared.fault.Fault.{Fault}
 use Rattle.sync_base.specs.declared.fault.Fault.TheVariants as fault
 use Rattle.sync_base.specs.declared.limits.TheConstants.{TOP_LEVEL}
 use Rattle.sync_base.specs.declared.note.Note.TheVariants.{Alarm, Interrupt}
@@ -14,42 +15,45 @@ use Rattle.sleep_core.specs.declared.phase.Phase.{Phase}
 use Rattle.sleep_core.specs.declared.phase.Phase.TheVariants as phase
 use Rattle.sleep_core.specs.State.{opening}
 use Rattle.waiting.specs.Waiting.{Promise}
-use Rattle.call_machines.specs.Grain.{Grain, May, levels_by, notes_by, with_move}
+use Rattle.call_machines.specs.Grain.{Grain, May, coarse_of, levels_by, notes_by, with_move}
 use Rattle.call_machines.specs.Grain.Grain.{Heard, Noted, Refused, Returned, Went, Woken}
 use Rattle.call_machines.specs.GrainEnds.{AreUnrefused}
 use Rattle.call_machines.specs.Machine.{Next, Outcome}
-use Rattle.call_machines.specs.Programs.{programs_of, with_rest}
+use Rattle.call_machines.specs.Programs.{ComesTo, EachBegins, Program, ProgramState, goes_in_call}
+use Rattle.call_machines.specs.Programs.{list_program, program_does, program_goes_on, program_system}
+use Rattle.call_machines.specs.Programs.ProgramState.{Ended, In}
 use Rattle.call_machines.specs.Runs.{IsAnswered, IsNext, IsOfCalls, event_for, outcome_of}
-use Rattle.call_machines.specs.Runs.{own_after}
+use Rattle.call_machines.specs.Runs.{System, own_after}
 use Rattle.call_machines.specs.Runs.Act.{Asked, Made}
 use Rattle.call_machines.specs.WaitTables.{AllowsNoMore, Keeps, does, goes_on}
 use Rattle.call_machines.specs.WaitTables.WaitState.{Asking, Begun, Leaving, Over, Returning, Waits}
 use Rattle.call_machines.specs.WholeCalls.{IsThereFor, events_of}
-use Rattle.call_machines.proofs.WorkedLatch.{LatchCall, LatchReply, asked, asleep, latch}
+use Rattle.call_machines.proofs.WorkedLatch.{LatchCall, LatchReply, LatchState, asked}
+use Rattle.call_machines.proofs.WorkedLatch.{asleep, latch}
 use Rattle.call_machines.proofs.WorkedLatch.{latch_after, latch_answer, means, means_late, proc}
 use Rattle.call_machines.proofs.WorkedLatch.{rendez, wait_table}
 use Rattle.call_machines.proofs.WorkedLatch.LatchCall.{Look, Set}
 use Rattle.call_machines.proofs.WorkedLatch.LatchReply.{Closed, Open}
-use Rattle.call_machines.proofs.WorkedLatch.LatchState.{Waiting}
+use Rattle.call_machines.proofs.WorkedLatch.LatchState.{Setting, Waiting, Waking}
 
 -- ---- the machine of a wait
 
-asks_first : does wait_table Begun ≡ Next.Ask Look
+asks_first : does wait_table (rendez 3) Begun ≡ Next.Ask Look
 asks_first = refl
 
-sleeps_with_its_number : does wait_table (Waits 7) ≡ Next.Sleep 7
+sleeps_with_its_number : does wait_table (rendez 3) (Waits 7) ≡ Next.Sleep (rendez 3) 7
 sleeps_with_its_number = refl
 
-asks_again : does wait_table Asking ≡ Next.Ask Look
+asks_again : does wait_table (rendez 3) Asking ≡ Next.Ask Look
 asks_again = refl
 
-leaves : does wait_table (Leaving fault.DoubleSleep) ≡ Next.Ask Look
+leaves : does wait_table (rendez 3) (Leaving fault.DoubleSleep) ≡ Next.Ask Look
 leaves = refl
 
-returns_its_notes : does wait_table (Returning (only Alarm) tt) ≡ Next.Return (only Alarm)
+returns_its_notes : does wait_table (rendez 3) (Returning (only Alarm) tt) ≡ Next.Return (only Alarm)
 returns_its_notes = refl
 
-is_over : does wait_table (Over (Ok tt)) ≡ Next.Over (Ok tt)
+is_over : does wait_table (rendez 3) (Over (Ok tt)) ≡ Next.Over (Ok tt)
 is_over = refl
 
 is_done_at_once : goes_on wait_table Begun (Outcome.Replied Open) ≡ Over (Ok tt)
@@ -86,9 +90,9 @@ has_returned_them = refl
 
 -- ---- the events of what a machine does
 
--- of process 0, which sleeps in Rendez 3
+-- of process 0
 abbrev next_event : Phase → Next LatchCall Unit → Option Event
-next_event stage does = event_for 0 (rendez 3) stage does
+next_event stage does = event_for 0 stage does
 
 asks_without_an_event : next_event phase.Idle (Next.Ask Look) ≡ None
 asks_without_an_event = refl
@@ -97,12 +101,12 @@ over_without_an_event :
     next_event phase.Idle (Next.Over (Ok tt)) ≡ None
 over_without_an_event = refl
 
-sleeps_in_its_own : next_event phase.Idle (Next.Sleep 7)
+sleeps_in_that_rendez : next_event phase.Idle (Next.Sleep (rendez 3) 7)
     ≡ Some (event.Post (proc 0) (rendez 3) 7)
-sleeps_in_its_own = refl
+sleeps_in_that_rendez = refl
 
 looks_in_its_sleep :
-    next_event (phase.Asleep (rendez 3) 7) (Next.Sleep 7)
+    next_event (phase.Asleep (rendez 3) 7) (Next.Sleep (rendez 3) 7)
     ≡ Some (event.Look (proc 0))
 looks_in_its_sleep = refl
 
@@ -157,11 +161,11 @@ a_post_moves_no_machine : own_after latch.machine
 a_post_moves_no_machine = refl
 
 -- a request that is not the machine's next is none of its run
-asks_out_of_turn : IsNext latch.machine 0 (rendez 0)
+asks_out_of_turn : IsNext latch.machine 0
     (record { at = Waiting Begun; stage = phase.Idle }) (Asked Set Open) → ⊥
 asks_out_of_turn is = cc
 
-sleeps_unasked : IsNext latch.machine 0 (rendez 0)
+sleeps_unasked : IsNext latch.machine 0
     (record { at = Waiting Begun; stage = phase.Idle })
     (Made (event.Post (proc 0) (rendez 0) 0) answer.Posted) → ⊥
 sleeps_unasked is = cc
@@ -196,8 +200,11 @@ the_events : events_of (asked 1 Set Open ∷ asleep)
     ∷ []
 the_events = refl
 
-sleeps_for_ever : IsThereFor latch (Next.Sleep TOP_LEVEL) → ⊥
-sleeps_for_ever is = is refl
+sleeps_for_ever : IsThereFor latch (Next.Sleep (rendez 0) TOP_LEVEL) → ⊥
+sleeps_for_ever is = is.1 refl
+
+sleeps_where_nothing_is : IsThereFor latch (Next.Sleep (rendez 2) 0) → ⊥
+sleeps_where_nothing_is is = let low : 2 < 2 = is.0 in absurd (omega arith)
 
 wakes_what_is_not_there : IsThereFor latch (Next.Wake (rendez 2) 1) → ⊥
 wakes_what_is_not_there low = let is : 2 < 2 = low in absurd (omega arith)
@@ -207,20 +214,20 @@ wakes_what_is_not_there low = let is : 2 < 2 = low in absurd (omega arith)
 abbrev MayDo : NoteSet → Next LatchCall Unit → Grain LatchCall LatchReply → Type 0
 MayDo notes does grain = May latch false notes does grain
 
-wakes_with_notes : MayDo (only Alarm) (Next.Sleep 7) Woken → ⊥
-wakes_with_notes may = let none = may.2 in cc
+wakes_with_notes : MayDo (only Alarm) (Next.Sleep (rendez 3) 7) Woken → ⊥
+wakes_with_notes may = let none = may.3 in cc
 
-notes_of_nobody : MayDo no_notes (Next.Sleep 7) (Noted no_notes) → ⊥
-notes_of_nobody may = let some = may.2 in cc
+notes_of_nobody : MayDo no_notes (Next.Sleep (rendez 3) 7) (Noted no_notes) → ⊥
+notes_of_nobody may = let some = may.3 in cc
 
-other_notes : MayDo (only Alarm) (Next.Sleep 7) (Noted (only Interrupt)) → ⊥
-other_notes may = let same = ap (λ (set : NoteSet). set.alarm) may.3 in cc
+other_notes : MayDo (only Alarm) (Next.Sleep (rendez 3) 7) (Noted (only Interrupt)) → ⊥
+other_notes may = let same = ap (λ (set : NoteSet). set.alarm) may.4 in cc
 
-refused_as_worn : MayDo no_notes (Next.Sleep 7) (Refused fault.Worn) → ⊥
-refused_as_worn may = may.2
+refused_as_worn : MayDo no_notes (Next.Sleep (rendez 3) 7) (Refused fault.Worn) → ⊥
+refused_as_worn may = may.3
 
 is_woken_without_a_sleep : MayDo no_notes (Next.Ask Look) Woken → ⊥
-is_woken_without_a_sleep may = let does = may.1 in cc
+is_woken_without_a_sleep may = let does = may.2 in cc
 
 hears_another_reply : MayDo no_notes (Next.Ask Look) (Heard Look Open) → ⊥
 hears_another_reply may = let is = may.1 in cc
@@ -305,31 +312,100 @@ allows_to_forget_it no_more =
     let is = so.1 in
     cc
 
--- ---- several calls, one after the other
+-- ---- programs of calls
 
-abbrev ended_with : Next ℕ ℕ
-ended_with = Next.Over (Ok 1)
+-- it waits at its first place, and sets the latch at its second one; which follows its first wait,
+-- if that ended well, and its first one follows again
+abbrev next_place : ℕ → Result Unit Fault → Option ℕ
+next_place zero (Ok unit) = Some 1
+next_place zero (Err why) = None
+next_place place answer = Some 0
 
-abbrev sleeps_on : Next ℕ ℕ
-sleeps_on = Next.Sleep 3
+abbrev first_call : ℕ → LatchState
+first_call zero = Waiting Begun
+first_call place = Setting
 
--- the next one follows a call that is over
-a_call_follows : with_rest {At = ℕ} ended_with 5 (6 ∷ 7 ∷ [])
-    ≡ record { at = 6; rest = 7 ∷ [] }
-a_call_follows = refl
+abbrev turns : Program ℕ LatchState Unit
+turns = record { call = first_call; next = next_place }
 
--- if there is one
-none_follows_the_last : with_rest {At = ℕ} ended_with 5 [] ≡ record { at = 5; rest = [] }
-none_follows_the_last = refl
+abbrev turned : LatchState → LatchCall → LatchReply → ProgramState ℕ LatchState
+turned at call replied = program_goes_on latch turns (In 0 at) (Outcome.Replied replied)
 
--- and no other
-none_follows_a_sleep : with_rest {At = ℕ} sleeps_on 5 (6 ∷ []) ≡ record { at = 5; rest = 6 ∷ [] }
-none_follows_a_sleep = refl
+-- a call that is not over goes on
+its_call_goes_on : turned (Waiting Begun) Look Closed ≡ In 0 (Waiting (Waits 0))
+its_call_goes_on = refl
 
--- each process begins with its first call
-three_begin : programs_of {At = ℕ} (1 ∷ 2 ∷ 3 ∷ []) ((4 ∷ []) ∷ [])
-    ≡ record { at = 1; rest = 4 ∷ [] }
-    ∷ record { at = 2; rest = [] }
-    ∷ record { at = 3; rest = [] }
-    ∷ []
-three_begin = refl
+-- the answer of one that is over chooses the place that follows
+another_follows : turned (Waiting Begun) Look Open ≡ In 1 Setting
+another_follows = refl
+
+none_follows : turned (Waiting (Leaving fault.DoubleSleep)) Look Closed ≡ Ended
+none_follows = refl
+
+-- and a place may come again
+the_first_follows : program_goes_on latch turns (In 1 Waking) Outcome.Went ≡ In 0 (Waiting Begun)
+the_first_follows = refl
+
+nothing_follows_the_end : program_goes_on latch turns Ended Outcome.Went ≡ Ended
+nothing_follows_the_end = refl
+
+does_what_its_call_does : program_does latch turns (In 1 Waking) ≡ Next.Wake (rendez 0) 1
+does_what_its_call_does = refl
+
+has_nothing_to_do : program_does latch turns Ended ≡ Next.Over (Ok tt)
+has_nothing_to_do = refl
+
+abbrev two_turn : System (ProgramState ℕ LatchState) LatchCall LatchReply Unit Bool
+two_turn = program_system latch turns (Some 1 ∷ None ∷ [])
+
+-- each process begins at its place, if it has one
+each_begins : two_turn.starts ≡ In 1 Setting ∷ Ended ∷ []
+each_begins = refl
+
+-- one process sets the latch, and finds it open then: it sets it again
+goes_round : (coarse_of two_turn (record { by = 0; grain = Heard Look Open }
+    ∷ record { by = 0; grain = Went } ∷ record { by = 0; grain = Heard Set Open } ∷ [])).states
+    ≡ In 1 Setting ∷ Ended ∷ []
+goes_round = refl
+
+comes_to_its_start : ComesTo turns (Some 1) 0 1
+comes_to_its_start = refl
+
+comes_to_what_follows : ComesTo turns (Some 1) 1 0
+comes_to_what_follows =
+    record { before = 1; comes = refl; answer = Ok tt; follows = refl }
+
+-- a place that no answer chooses is none that it comes to
+comes_to_no_other : ComesTo turns (Some 1) 1 7 → ⊥
+comes_to_no_other comes = by comes.before comes.comes comes.follows
+  where
+    by : (before : ℕ) → Some 1 ≡ Some before → next_place before comes.answer ≡ Some 7 → ⊥
+    by zero is follows = cc
+    by (suc before) is follows = cc
+
+begins_otherwise : EachBegins turns (λ pid call. call ≡ Waiting Begun) (Some 1 ∷ []) → ⊥
+begins_otherwise each = let is = each 0 0 1 refl in cc
+
+-- calls one after the other
+a_list_goes_on : (list_program {At = ℕ} {Out = Unit}).next (record { at = 5; rest = 6 ∷ 7 ∷ [] })
+    (Ok tt)
+    ≡ Some (record { at = 6; rest = 7 ∷ [] })
+a_list_goes_on = refl
+
+and_ends : (list_program {At = ℕ} {Out = Unit}).next (record { at = 7; rest = [] }) (Ok tt) ≡ None
+and_ends = refl
+
+begins_with_its_call : (list_program {At = ℕ} {Out = Unit}).call (record { at = 5; rest = [] }) ≡ 5
+begins_with_its_call = refl
+
+-- ---- what an object lets go on
+
+lets_its_call_go_on : goes_in_call {Place = ℕ} (λ is_open at. is_open) true (In 0 Setting) ≡ true
+lets_its_call_go_on = refl
+
+lets_nobody_go_on : goes_in_call {Place = ℕ} (λ is_open at. is_open) false (In 0 Setting) ≡ false
+lets_nobody_go_on = refl
+
+who_has_ended_goes_nowhere : goes_in_call {At = LatchState} {Place = ℕ} (λ is_open at. is_open) true
+    Ended ≡ false
+who_has_ended_goes_nowhere = refl
