@@ -1,5 +1,5 @@
 -- Runs of a semaphore's calls: each process makes one call, by its own seat.
-use Rattle.std.specs.Prelude.{◌≡◌, ◌≤◌, ◌<◌, ◌+◌, ◌-◌, ◌==◌, ℕ, true, false, if◌then◌else◌, Option}
+use Rattle.std.specs.Prelude.{◌≡◌, ◌⊎◌, ◌≤◌, ◌<◌, ◌+◌, ◌-◌, ◌==◌, ℕ, true, false, if◌then◌else◌, Option}
 use Rattle.std.specs.Prelude.{Some, None, List, [], ◌∷◌, length, slice_index_or, Result, Ok, Err}
 use Rattle.histories.specs.declared.account.Account.{Account}
 use Rattle.histories.specs.Account.{numbers_from}
@@ -106,12 +106,17 @@ pub record Fits (sema : Sema) (value rendez : ℕ) : Type 0 where
   pub value : value ≤ MAX_VALUE
   pub row : sema.first + sema.procs ≤ rendez
 
--- each process makes one call of the semaphore, by a seat of its own
+-- a process with no call under way
+abbrev pub idle : CallState
+idle = Gives 0 (Released (Ok 0))
+
+-- each process makes one call of the semaphore, by a seat of its own, or none
 pub record AreItsCalls (sema : Sema) (value rendez : ℕ) (starts : List CallState)
     (none : CallState) : Type 0 where
   pub fits : Fits sema value rendez
   pub procs_are : length starts ≡ sema.procs
-  pub begin : (pid : ℕ) → pid < sema.procs → BeginsBy pid (slice_index_or starts pid none)
+  pub begin : (pid : ℕ) → pid < sema.procs
+      → BeginsBy pid (slice_index_or starts pid none) ⊎ (slice_index_or starts pid none ≡ idle)
 
 -- the lock of the semaphore was opened with this value, for as many seats
 pub record OpensWith (sema : Sema) (value : ℕ) : Type 0 where

@@ -1,11 +1,10 @@
 -- The calls of rendezvous in one space, each by a member of it.
-use Rattle.std.specs.Prelude.{◌≡◌, ℕ, List, replicate}
+use Rattle.std.specs.Prelude.{◌≡◌, ◌≤◌, ◌+◌, ℕ, List, replicate}
 use Rattle.tag_space.specs.declared.calls.GroupCall.{GroupCall}
 use Rattle.tag_space.specs.declared.calls.GroupReply.{GroupReply}
 use Rattle.tag_space.specs.declared.place.Place.{Place}
 use Rattle.tag_space.specs.declared.space.TagSpace.{TagSpace}
 use Rattle.tag_space.specs.GroupObject.{answer_to, opening, places_after}
-use Rattle.tag_space.specs.Members.{rendez_of_member}
 use Rattle.tag_space.specs.Rendezvous.{Offered}
 use Rattle.call_machines.specs.Machine.{Machine, Next, Outcome}
 use Rattle.call_machines.specs.Runs.{System}
@@ -49,9 +48,14 @@ pub record BeginsBy (pid : ℕ) (call : MemberCall) : Type 0 where
   pub member_is : call.member ≡ pid
   pub begins : call.at ≡ Calls Begun
 
+-- the space has a member for each of so many processes, and its row of Rendez is in the world
+pub record HasRoom (space : TagSpace) (rendez procs : ℕ) : Type 0 where
+  pub members : procs ≤ space.procs
+  pub row : space.first.0 + space.procs ≤ rendez
+
 -- a process with no call under way
 abbrev pub idle : MemberCall
-idle = record { member = 0; offered = record { tag = 0; value = 0 }; at = Woke 0 }
+idle = record { member = 0; offered = record { tag = record { 0 = 0 }; value = 0 }; at = Woke 0 }
 
 -- the calls of so many processes in a space, of which none is under way at first
 abbrev pub space_calls : TagSpace → ℕ → ℕ → System MemberCall GroupCall GroupReply ℕ (List Place)
