@@ -70,22 +70,22 @@ pub fn runs_are_moves<A, Q, R, O, T>()
     ensures { (system : System A Q R O T) → RunsAreMoves system }
 {}
 
-/// If no run at the grain of calls deadlocks, no run of the calls does. Where each process sleeps
-/// in a Rendez of its own, refused sleeps may be left out.
+/// If no run at the grain of calls deadlocks, no run of the calls does. Where no two processes sleep
+/// in one Rendez, refused sleeps may be left out.
 pub fn coarse_ends_hold<A, Q, R, O, T>()
     ensures ends { (system : System A Q R O T) → CoarseEndsHold system }
     ensures refusals { (system : System A Q R O T) → NoSleepIsRefused system }
     ensures unrefused { (system : System A Q R O T) → UnrefusedEndsHold system }
 {}
 
-/// Where an object's wakeups are due, the object alone says who may go on.
+/// Where an object's wakeups are due, the object alone says which calls may go on.
 pub fn object_ends_hold<A, Q, R, O, T>()
     ensures { (system : System A Q R O T) → (goes : T → A → Bool)
         → ObjectEndsHold system (λ object at. goes object at ≡ true) }
 {}
 
 /// Where besides each call that sleeps asks again, and in vain where it was woken too early, runs
-/// may be left out in which a wait ends well before the object lets its process go on.
+/// may be left out in which a wait ends well before the object lets its call go on.
 pub fn strict_ends_hold<A, Q, R, O, T>()
     ensures { (system : System A Q R O T) → (goes : T → A → Bool)
         → StrictEndsHold system (λ object at. goes object at ≡ true) }
