@@ -239,7 +239,7 @@ module _ (sema : Sema) (value rendez : ℕ) (starts : List CallState) (none : Ca
         record {
           opened = record {
             value = value;
-            fits = are.fits.value;
+            fits = are.fits.low;
             opening_is = opens.opening_is;
             limit = opens.limit;
           };

@@ -1,6 +1,6 @@
 -- Each call that is over in a run of a semaphore's calls is as its contract says.
 use Rattle.std.proofs.Common.{◌≡◌, ◌<◌, ℕ, true, false, List, [], ◌∷◌, ◌++◌, length, Ok}
-use Rattle.std.proofs.Common.{Result, Err, refl, sym, ◌∙◌, ap, subst, arith}
+use Rattle.std.proofs.Common.{Result, Err, refl, sym, ◌∙◌, ap, subst}
 use Rattle.std.specs.Prelude.{slice_index_or}
 use Rattle.rendez_words.specs.declared.words.Words.{Words}
 use Rattle.sync_base.specs.declared.fault.Fault.{Fault}
@@ -9,7 +9,7 @@ use Rattle.semaphore.specs.declared.sema.Sema.{Sema}
 use Rattle.semaphore.specs.declared.sema.SemaSeat.{SemaSeat}
 use Rattle.semaphore.specs.Acquiring.{Semacquires}
 use Rattle.semaphore.specs.Releasing.{Releases}
-use Rattle.semaphore.specs.Seats.{IsSemaSeatOf, rendez_of_seat}
+use Rattle.semaphore.specs.Seats.{IsSemaSeatOf}
 use Rattle.semaphore.specs.Units.{SemaState}
 use Rattle.waiting.specs.Waiting.{Point}
 use Rattle.call_machines.specs.Machine.{Next}

@@ -11,14 +11,13 @@ use Rattle.semaphore.specs.declared.sema_object.SemaReply.{SemaReply}
 use Rattle.semaphore.specs.declared.sema_object.SemaReply.TheVariants as reply
 use Rattle.semaphore.specs.Asking.{Asks, OnlyAsks, wake_reply}
 use Rattle.semaphore.specs.Releasing.{AsksNext, HasReleased, Releases, WakesNamed}
-use Rattle.semaphore.specs.Seats.{IsSemaSeatOf, rendez_at, rendez_of_seat}
+use Rattle.semaphore.specs.Seats.{IsSemaSeatOf, rendez_of_seat}
 use Rattle.semaphore.proofs.ReleaseLemmas.{HasNamed, asks_later}
 use Rattle.semaphore.proofs.TellLemmas.{next_never}
 use Rattle.sleep_wakeup.specs.Actions.{WakesOne}
 use Rattle.rendez_words.specs.Process.{Process}
 use Rattle.sync_base.specs.declared.fault.Fault.{Fault}
 use Rattle.sync_base.specs.declared.fault.Fault.TheVariants as fault
-use Rattle.sync_base.specs.declared.ids.RendezId.{RendezId}
 use Rattle.waiting.specs.Waiting.{Point}
 use Rattle.call_machines.specs.Machine.{Next, Outcome}
 use Rattle.call_machines.specs.Plays.{HasDone, MachinePoint, Makes, Plays}

@@ -10,7 +10,7 @@ use Rattle.semaphore.specs.declared.sema_object.SemaReply.{SemaReply}
 use Rattle.semaphore.specs.declared.sema_object.SemaReply.TheVariants as reply
 use Rattle.semaphore.specs.Acquiring.{Semacquires}
 use Rattle.semaphore.specs.Asking.{OnlyAsks, now_reply}
-use Rattle.semaphore.specs.Seats.{IsSemaSeatOf, rendez_at}
+use Rattle.semaphore.specs.Seats.{IsSemaSeatOf}
 use Rattle.semaphore.proofs.TellLemmas.{acquire_now_never}
 use Rattle.semaphore.proofs.UnitLemmas.{now_over}
 use Rattle.sync_base.specs.declared.fault.Fault.{Fault}

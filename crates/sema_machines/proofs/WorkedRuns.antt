@@ -138,7 +138,7 @@ module _ (lock : Locked SemaState SemaCall SemaReply) where
       idle
   are_its_calls =
       record {
-        fits = record { value = omega arith; row = omega arith };
+        fits = record { low = omega arith; row = omega arith };
         procs_are = refl;
         begin = begin;
       }
@@ -174,7 +174,7 @@ module _ (lock : Locked SemaState SemaCall SemaReply) where
   are_its_turns : AreItsPrograms sema 1 2 list_program turns_of
   are_its_turns =
       record {
-        fits = record { value = omega arith; row = omega arith };
+        fits = record { low = omega arith; row = omega arith };
         procs_are = refl;
         begin = λ pid calls place comes. (all pid calls place comes).0;
       }

@@ -23,7 +23,6 @@ use Rattle.semaphore.specs.Acquiring.{Semacquires}
 use Rattle.semaphore.specs.Definitions.{sema_definition}
 use Rattle.semaphore.specs.Releasing.{Releases}
 use Rattle.semaphore.specs.SemaHistory.{SemaEntry}
-use Rattle.semaphore.specs.Seats.{rendez_of_seat}
 use Rattle.semaphore.specs.Units.{SemaState, opening}
 use Rattle.waiting.specs.Waiting.{Point}
 use Rattle.call_machines.specs.Machine.{Next, Outcome}
@@ -103,7 +102,7 @@ BeginsBy pid (Gives count at) = at ≡ Releasing
 
 -- the value may be the first one of the semaphore, and its row of Rendez is in the world
 pub record Fits (sema : Sema) (value rendez : ℕ) : Type 0 where
-  pub value : value ≤ MAX_VALUE
+  pub low : value ≤ MAX_VALUE
   pub row : sema.first + sema.procs ≤ rendez
 
 -- a process with no call under way
