@@ -8,7 +8,7 @@ use Rattle.std.proofs.lemmas.List.{get_or-set_other, get_or-set_same, length-set
 use Rattle.sleep_core.proofs.ListLemmas.{get_or-set_cases}
 use Rattle.sync_base.specs.declared.note.NoteSet.{NoteSet}
 use Rattle.call_machines.specs.Grain.{Grain, May, levels_by}
-use Rattle.call_machines.specs.Grain.Grain.{Heard, Noted, Refused, Returned, Went, Woken}
+use Rattle.call_machines.specs.Grain.Grain.{Drained, Heard, Noted, Refused, Returned, Went, Woken}
 use Rattle.call_machines.specs.Machine.{Next}
 use Rattle.call_machines.specs.Runs.{System}
 
@@ -23,6 +23,7 @@ module _ {At Request Reply Out Object : Type 0} (system : System At Request Repl
   ComesOf (Next.Sleep rendez number) (Refused why) = ⊤
   ComesOf (Next.Wake other level) Went = ⊤
   ComesOf (Next.Return set) (Returned other) = ⊤
+  ComesOf Next.Drain (Drained set) = set ≡ notes
   ComesOf does grain = ⊥
 
   -- and nothing else may come of it
@@ -34,12 +35,14 @@ module _ {At Request Reply Out Object : Type 0} (system : System At Request Repl
   comes_of (Next.Sleep rendez number) (Refused why) may = tt
   comes_of (Next.Wake other level) Went may = tt
   comes_of (Next.Return set) (Returned other) may = tt
+  comes_of Next.Drain (Drained set) may = may.1
   comes_of does (Heard request reply) may = absurd (let is = may.0 in cc)
-  comes_of does Woken may = absurd (let is = may.1 in cc)
-  comes_of does (Noted set) may = absurd (let is = may.1 in cc)
-  comes_of does (Refused why) may = absurd (let is = may.1 in cc)
+  comes_of does Woken may = absurd (let is = may.2 in cc)
+  comes_of does (Noted set) may = absurd (let is = may.2 in cc)
+  comes_of does (Refused why) may = absurd (let is = may.2 in cc)
   comes_of does Went may = absurd (let is = may.2 in cc)
   comes_of does (Returned set) may = absurd (let is = may in cc)
+  comes_of does (Drained set) may = absurd (let is = may.0 in cc)
 
 module _ {Request Reply Out : Type 0} where
   -- no move lowers a level

@@ -9,7 +9,7 @@ use Rattle.sleep_core.specs.declared.answer.Answer.{Answer}
 use Rattle.sleep_core.specs.declared.answer.Answer.TheVariants as answer
 use Rattle.sleep_core.specs.declared.event.Event.{Event}
 use Rattle.sleep_core.specs.declared.event.Event.TheVariants.{Post, Test, Withdraw, Clear}
-use Rattle.sleep_core.specs.declared.event.Event.TheVariants.{Raise, Take, Mark, Note}
+use Rattle.sleep_core.specs.declared.event.Event.TheVariants.{Drain, Raise, Take, Mark, Note}
 use Rattle.sleep_core.specs.declared.phase.Phase.{Phase}
 use Rattle.sleep_core.specs.declared.phase.Phase.TheVariants as phase
 use Rattle.sleep_core.specs.Laws.{IsSoundIn}
@@ -228,6 +228,12 @@ module _ (s : State) (pid : ℕ) where
       = ap (λ (p : Phase). event_in pid p (core.Note (proc pid) set)) (sym fits) ∙ same in
       absurd (never_in phase.Idle (Note (proc pid) set) refl
       (answered phase.Idle (Note (proc pid) set) (at ∙ fits) refl (ap (answer_to s) idle ∙ told)))
+  parked_so Next.Drain stage event at fits is told =
+      let same : event_in pid stage core.Drain ≡ event = cc in
+      let idle : event_in pid phase.Idle core.Drain ≡ event
+      = ap (λ (p : Phase). event_in pid p core.Drain) (sym fits) ∙ same in
+      absurd (never_in phase.Idle (Drain (proc pid)) refl
+      (answered phase.Idle (Drain (proc pid)) (at ∙ fits) refl (ap (answer_to s) idle ∙ told)))
   parked_so other stage event at fits is told = absurd cc
 
 -- ---- a run that has stopped

@@ -12,7 +12,7 @@ use Rattle.sleep_core.specs.declared.answer.Answer.{Answer}
 use Rattle.sleep_core.specs.declared.answer.Answer.TheVariants as answer
 use Rattle.sleep_core.specs.declared.event.Event.{Event}
 use Rattle.sleep_core.specs.declared.event.Event.TheVariants.{Post, Test, Look, Withdraw, Clear}
-use Rattle.sleep_core.specs.declared.event.Event.TheVariants.{Raise, Take, Mark, Note}
+use Rattle.sleep_core.specs.declared.event.Event.TheVariants.{Drain, Raise, Take, Mark, Note}
 use Rattle.sleep_core.specs.declared.phase.Phase.{Phase}
 use Rattle.sleep_core.specs.declared.phase.Phase.TheVariants as phase
 use Rattle.sleep_core.specs.State.{State, flags_of, no_flags, nobody, phase_of, posted_of}
@@ -25,6 +25,7 @@ use Rattle.schedules.specs.declared.call.Call.TheVariants as core
 use Rattle.call_machines.specs.Grain.{Grain, May, event_grain, levels_by, notes_by, outcome_by}
 use Rattle.call_machines.specs.Machine.{Next, Outcome}
 use Rattle.call_machines.specs.Runs.{System, event_for, outcome_of}
+use Rattle.call_machines.proofs.GrainNotes.{drain_flags, drain_told}
 use Rattle.call_machines.proofs.GrainNotes.{NotesKept, by_mark, by_nobody, clear_flags, clear_told}
 use Rattle.call_machines.proofs.GrainNotes.{note_flags, noted_with, others_flags, owed, own_flags}
 use Rattle.call_machines.proofs.GrainNotes.{quiet_after, returned_rises}
@@ -66,6 +67,7 @@ idle_fits (Next.Sleep rendez number) = tt
 idle_fits (Next.Wake rendez level) = tt
 idle_fits (Next.Ask request) = refl
 idle_fits (Next.Return set) = refl
+idle_fits Next.Drain = refl
 idle_fits (Next.Over answer) = refl
 
 -- ---- phases after events
@@ -431,6 +433,23 @@ module _ {At Request Reply Out Object : Type 0} (system : System At Request Repl
               there (note_flags s pid set there at);
         })
 
+    -- ---- notes that it takes
+
+    by_drain : phase_of s pid ≡ phase.Idle
+        → ComesTo Next.Drain phase.Idle (Drain (proc pid)) (answer_to s (Drain (proc pid)))
+    by_drain at =
+        subst (ComesTo Next.Drain phase.Idle (Drain (proc pid))) (sym (drain_told s pid there at))
+        (inr (record {
+          over = refl;
+          may = (refl, refl);
+          hears = refl;
+          levels = stays_low (Drain (proc pid));
+          ours = own_flags s (world_after s (Drain (proc pid))) pid no_flags there
+              (drain_flags s pid there at);
+          others = others_flags s (world_after s (Drain (proc pid))) pid no_flags there
+              (drain_flags s pid there at);
+        }))
+
     -- ---- so each event of its own
 
     -- so each event that a machine has is one or the other
@@ -452,4 +471,9 @@ module _ {At Request Reply Out Object : Type 0} (system : System At Request Repl
         (event_in pid p (core.Note (proc pid) set))
         (answer_to s (event_in pid p (core.Note (proc pid) set)))) (sym fits)
         (by_return set (at ∙ fits)))
+    each_event Next.Drain stage event at fits is =
+        let same : event_in pid stage core.Drain ≡ event = cc in
+        subst (λ (e : Event). ComesTo Next.Drain stage e (answer_to s e)) same
+        (subst (λ (p : Phase). ComesTo Next.Drain p (event_in pid p core.Drain)
+        (answer_to s (event_in pid p core.Drain))) (sym fits) (by_drain (at ∙ fits)))
     each_event other stage event at fits is = absurd cc

@@ -227,6 +227,8 @@ module _ {At Request Reply Out Object : Type 0} (system : System At Request Repl
   object_so o (event.Withdraw pid) said = sleep_object o said
   object_so o (event.Clear pid) said = sleep_object o said
   object_so o (event.Note pid set) said = refl
+  object_so o (event.Drain pid) (answer.Notes set) = refl
+  object_so o (event.Drain pid) said = refl
   object_so o other said = refl
 
   fine_after : (pid : ℕ) → pid < procs system → (act : Act Request Reply)

@@ -166,6 +166,23 @@ note_flags s pid set there at =
         told_there s pid (Note (proc pid) set) phase.Idle refl there.within at
         (grind (arith, nat_tests))
 
+-- a drain is answered by the notes that are pending, and they are no longer
+pub drain_told : (s : State) (pid : ℕ) → IsThere s pid → phase_of s pid ≡ phase.Idle
+    → answer_to s (Drain (proc pid)) ≡ answer.Notes (flags_of s pid).notes
+drain_told s pid there at =
+    let size = there.whole.flags in
+    let low = there.within in
+    told_there s pid (Drain (proc pid)) phase.Idle refl there.within at
+    (grind (arith, nat_tests))
+
+pub drain_flags : (s : State) (pid : ℕ) → IsThere s pid → phase_of s pid ≡ phase.Idle
+    → (world_after s (Drain (proc pid))).flags ≡ slice_set s.flags pid no_flags
+drain_flags s pid there at =
+    ap (λ (a : Answer). (world_told s (phase_of s pid) (Drain (proc pid)) a).flags)
+    (drain_told s pid there at)
+    ∙ ap (λ (p : Phase). (world_told s p (Drain (proc pid))
+    (answer.Notes (flags_of s pid).notes)).flags) at
+
 module _ (s after : State) (pid : ℕ) (flags : ProcFlags) (there : IsThere s pid)
     (is : after.flags ≡ slice_set s.flags pid flags) where
   -- the notes of the process itself after such a change

@@ -12,7 +12,7 @@ use Rattle.sleep_core.specs.Table.{has_notes}
 use Rattle.call_machines.specs.Ends.{HasEnded}
 use Rattle.call_machines.specs.Grain.{AreMoves, Coarse, Grain, May, Move, at_of, coarse_of}
 use Rattle.call_machines.specs.Grain.{moved, notes_by, notes_of, object_with, outcome_by}
-use Rattle.call_machines.specs.Grain.Grain.{Heard, Noted, Refused, Returned, Went, Woken}
+use Rattle.call_machines.specs.Grain.Grain.{Drained, Heard, Noted, Refused, Returned, Went, Woken}
 use Rattle.call_machines.specs.GrainEnds.{AreUnrefused, HaveEndedAt}
 use Rattle.call_machines.specs.GrainEnds.{IsCoarseStuck, IsObjectStuck, IsUnrefused, WaitsBy}
 use Rattle.call_machines.specs.GrainEnds.{WaitsOn}
@@ -223,6 +223,7 @@ module _ {At Request Reply Out Object : Type 0} (system : System At Request Repl
       same_step (Refused why) same may unrefused = absurd unrefused
       same_step Went same may unrefused = same_both _ same may unrefused tt
       same_step (Returned set) same may unrefused = same_both _ same may unrefused tt
+      same_step (Drained set) same may unrefused = same_both _ same may unrefused tt
 
       -- where both sleep
       asleep_step : (grain : Grain Request Reply) → AreOneWait system Goes old (at_of system now pid)
@@ -245,6 +246,8 @@ module _ {At Request Reply Out Object : Type 0} (system : System At Request Repl
           absurd (let both = sym one.sleeps ∙ may.0 in cc)
       asleep_step Went one may unrefused = absurd (let both = sym one.sleeps ∙ may.2 in cc)
       asleep_step (Returned set) one may unrefused = absurd (let both = sym one.sleeps ∙ may in cc)
+      asleep_step (Drained set) one may unrefused =
+          absurd (let both = sym one.sleeps ∙ may.0 in cc)
 
       -- the strict run's wait ends too, where the object lets the process go on
       catch_up : IsEarly (notes_of system at pid) old (at_of system now pid)
@@ -306,6 +309,8 @@ module _ {At Request Reply Out Object : Type 0} (system : System At Request Repl
           absurd (let is = sym asks ∙ (ap system.machine.does (sym early.is) ∙ may.2) in cc)
       in_vain request (Returned set) early asks vain may =
           absurd (let is = sym asks ∙ (ap system.machine.does (sym early.is) ∙ may) in cc)
+      in_vain request (Drained set) early asks vain may =
+          absurd (let is = sym asks ∙ (ap system.machine.does (sym early.is) ∙ may.0) in cc)
 
     -- any move
     step : (so : Strictly at) (grain : Grain Request Reply)

@@ -10,6 +10,7 @@ use Rattle.sleep_core.specs.declared.answer.Answer.{Answer}
 use Rattle.sleep_core.specs.declared.answer.Answer.TheVariants as answer
 use Rattle.sleep_core.specs.declared.event.Event.{Event}
 use Rattle.sleep_core.specs.declared.event.Event.TheVariants.{Post, Test, Look, Withdraw, Clear}
+use Rattle.sleep_core.specs.declared.event.Event.TheVariants.{Drain}
 use Rattle.sleep_core.specs.declared.phase.Phase.{Phase}
 use Rattle.sleep_core.specs.declared.phase.Phase.TheVariants as phase
 use Rattle.sleep_core.specs.SleepPlaces.{MayBePosted, WordsAgree}
@@ -97,6 +98,8 @@ posted_own (Next.Ask request) stage rendez fits may =
     absurd (subst (MayBePosted rendez) fits may)
 posted_own (Next.Return set) stage rendez fits may =
     absurd (subst (MayBePosted rendez) fits may)
+posted_own Next.Drain stage rendez fits may =
+    absurd (subst (MayBePosted rendez) fits may)
 posted_own (Next.Over answer) stage rendez fits may =
     absurd (subst (MayBePosted rendez) fits may)
 
@@ -111,6 +114,11 @@ module _ {At Request Reply Out Object : Type 0} (system : System At Request Repl
       (if some then answer.Interrupted set else answer.Cleared))
   clear_unrefused true set pid = tt
   clear_unrefused false set pid = tt
+
+  drain_unrefused : (said : Answer) (pid : ℕ)
+      → IsUnrefused system (event_grain system (Drain (proc pid)) said)
+  drain_unrefused (answer.Notes set) pid = tt
+  drain_unrefused said pid = tt
 
   amid_sleep : (stage : Phase) (grain : Grain Request Reply) → is_idle stage ≡ false
       → is_idle stage ≡ true → IsUnrefused system grain
@@ -251,6 +259,11 @@ module _ {At Request Reply Out Object : Type 0} (system : System At Request Repl
         subst (λ (e : Event). NoRefusal e (answer_to s e) stage)
         (ap (λ (p : Phase). event_in pid p (core.Note (proc pid) set)) (sym fits) ∙ same)
         (λ idle. tt)
+    event_unrefused apart below pid low Next.Drain does stage at fits event is =
+        let same : event_in pid stage core.Drain ≡ event = cc in
+        subst (λ (e : Event). NoRefusal e (answer_to s e) stage)
+        (ap (λ (p : Phase). event_in pid p core.Drain) (sym fits) ∙ same)
+        (λ idle. drain_unrefused (answer_to s (Drain (proc pid))) pid)
     event_unrefused apart below pid low n does stage at fits event is = absurd cc
 
   step_unrefused : (pid : ℕ) (act : Act Request Reply) (past : List (Step Request Reply))

@@ -12,11 +12,11 @@ use Rattle.sync_base.specs.declared.limits.TheConstants.{TOP_LEVEL}
 use Rattle.sleep_core.specs.declared.answer.Answer.{Answer}
 use Rattle.sleep_core.specs.declared.answer.Answer.TheVariants as answer
 use Rattle.sleep_core.specs.declared.event.Event.{Event}
-use Rattle.sleep_core.specs.declared.event.Event.TheVariants.{Note}
+use Rattle.sleep_core.specs.declared.event.Event.TheVariants.{Drain, Note}
 use Rattle.sleep_core.specs.declared.phase.Phase.{Phase}
 use Rattle.sleep_core.specs.declared.phase.Phase.TheVariants as phase
 use Rattle.sleep_core.specs.Runs.{Entry, IsRun, kept, own, phase_by}
-use Rattle.sleep_core.specs.State.{State, phase_of}
+use Rattle.sleep_core.specs.State.{State, flags_of, phase_of}
 use Rattle.sleep_core.specs.Step.{answer_to}
 use Rattle.sleep_core.specs.Table.{phase_after}
 use Rattle.sleep_core.proofs.OwnEvents.{phase_by-kept_own}
@@ -40,6 +40,7 @@ use Rattle.call_machines.specs.Runs.{start_of, world_at}
 use Rattle.call_machines.specs.Runs.Act.{Asked, Made}
 use Rattle.call_machines.specs.WholeCalls.{IsKernelOf, IsThereFor, KnowsOwn, events_of, process_of}
 use Rattle.call_machines.specs.WholeCalls.{with_event}
+use Rattle.call_machines.proofs.GrainNotes.{drain_told}
 use Rattle.call_machines.proofs.RunLemmas.{is_core, sound_at, there_at}
 use Rattle.call_machines.proofs.ScheduleLemmas.{acts_more, acts_others, front_of, last_of, stage_is}
 use Rattle.call_machines.proofs.SleepEvents.{Leads, event_leads, told_there}
@@ -394,6 +395,24 @@ module _ {At Request Reply Out Object Seat : Type 0} (system : System At Request
                   told_there s pid (Note (proc pid) set) o.stage refl there_is.within stage_here
                   (grind (arith, nat_tests))
 
+          drain_event : system.machine.does o.at ≡ Next.Drain → o.stage ≡ phase.Idle
+              → Comes o.at a l
+              → EventTo (Drain (proc pid)) (answer_to s (Drain (proc pid)))
+          drain_event does idle comes of_words =
+              subst (λ (said : Answer). InCall
+              (own_after system.machine o (Made (Drain (proc pid)) said))
+              a (with_step (told_so pid (Drain (proc pid)) said) l)) (sym said_is)
+              (over_so o a (Drain (proc pid)) (answer.Notes set) o.stage
+              (told_so pid (Drain (proc pid)) (answer.Notes set) ∷ l) l comes Next.Drain does
+              (Outcome.Took set) refl (refl, refl) (ap is_idle idle))
+            where
+              set : NoteSet
+              set = (flags_of s pid).notes
+
+              said_is : answer_to s (Drain (proc pid)) ≡ answer.Notes set
+              said_is =
+                  drain_told s pid (there_at system pid there past of_past) (stage_here ∙ idle)
+
           -- what it is, by where its call is
           event_to : (made : Event)
               → event_for pid o.stage (system.machine.does o.at) ≡ Some made
@@ -440,6 +459,12 @@ module _ {At Request Reply Out Object Seat : Type 0} (system : System At Request
                       (wake_event l between.comes idle_by other level does
                       (subst (λ (p : Phase). InWakeup words pid other level l idle_by p l)
                       (sym between.idle) refl))
+                  begins Next.Drain does is =
+                      let same : Drain (proc pid) ≡ made =
+                      (let both = ap (λ (p : Phase). event_in pid p core.Drain)
+                      (sym between.idle) in cc) in
+                      subst (λ (e : Event). EventTo e (answer_to s e)) same
+                      (drain_event does between.idle between.comes)
                   begins (Next.Return set) does is =
                       let same : Note (proc pid) set ≡ made =
                       (let both = ap (λ (p : Phase). event_in pid p (core.Note (proc pid) set))

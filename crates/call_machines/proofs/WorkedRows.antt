@@ -16,11 +16,11 @@ use Rattle.sleep_core.specs.declared.phase.Phase.TheVariants as phase
 use Rattle.sleep_core.specs.State.{opening}
 use Rattle.waiting.specs.Waiting.{Promise}
 use Rattle.call_machines.specs.Grain.{Grain, May, coarse_of, levels_by, notes_by, with_move}
-use Rattle.call_machines.specs.Grain.Grain.{Heard, Noted, Refused, Returned, Went, Woken}
+use Rattle.call_machines.specs.Grain.Grain.{Drained, Heard, Noted, Refused, Returned, Went, Woken}
 use Rattle.call_machines.specs.GrainEnds.{AreUnrefused}
-use Rattle.call_machines.specs.Machine.{Next, Outcome}
+use Rattle.call_machines.specs.Machine.{Next, Outcome, next_with, outcome_with}
 use Rattle.call_machines.specs.Programs.{ComesTo, EachBegins, Program, ProgramState, goes_in_call}
-use Rattle.call_machines.specs.Programs.{list_program, program_does, program_goes_on, program_system}
+use Rattle.call_machines.specs.Programs.{list_program, program_does, program_goes_on, program_system, with_call}
 use Rattle.call_machines.specs.Programs.ProgramState.{Ended, In}
 use Rattle.call_machines.specs.Runs.{IsAnswered, IsNext, IsOfCalls, event_for, outcome_of}
 use Rattle.call_machines.specs.Runs.{System, own_after}
@@ -118,6 +118,9 @@ posts_to_itself : next_event phase.Idle (Next.Return (only Alarm))
     ≡ Some (event.Note (proc 0) (only Alarm))
 posts_to_itself = refl
 
+takes_its_own_notes : next_event phase.Idle Next.Drain ≡ Some (event.Drain (proc 0))
+takes_its_own_notes = refl
+
 -- ---- what came of them
 
 cleared : outcome_of {Reply = LatchReply} (event.Clear (proc 0)) answer.Cleared
@@ -144,6 +147,10 @@ not_there = refl
 
 woke : outcome_of {Reply = LatchReply} (event.Mark (proc 0)) (answer.Marked (proc 1)) ≡ Outcome.Went
 woke = refl
+
+took : outcome_of {Reply = LatchReply} (event.Drain (proc 0)) (answer.Notes (only Alarm))
+    ≡ Outcome.Took (only Alarm)
+took = refl
 
 -- ---- runs
 
@@ -246,6 +253,16 @@ returns_others may =
 goes_on_while_it_asks : MayDo no_notes (Next.Ask Look) Went → ⊥
 goes_on_while_it_asks may = let does = may.2 in cc
 
+drains_what_it_has_not : MayDo no_notes Next.Drain (Drained (only Alarm)) → ⊥
+drains_what_it_has_not may = let alarm = ap (λ (set : NoteSet). set.alarm) may.1 in cc
+
+drains_while_it_asks : MayDo no_notes (Next.Ask Look) (Drained no_notes) → ⊥
+drains_while_it_asks may = let does = may.0 in cc
+
+leaves_none_behind : notes_by {Request = LatchCall} {Reply = LatchReply} (only Alarm)
+    (Drained (only Alarm)) ≡ no_notes
+leaves_none_behind = refl
+
 takes_its_notes : notes_by {Request = LatchCall} {Reply = LatchReply} (only Alarm)
     (Noted (only Alarm)) ≡ no_notes
 takes_its_notes = refl
@@ -269,6 +286,11 @@ raises_its_own = refl
 amid_a_sleep : with_move latch 0 (record { at = Waiting (Waits 0); stage = phase.Idle })
     (Made (event.Post (proc 0) (rendez 0) 0) answer.Posted) [] ≡ []
 amid_a_sleep = refl
+
+drained_at_once : with_move latch 0 (record { at = Waiting Begun; stage = phase.Idle })
+    (Made (event.Drain (proc 0)) (answer.Notes (only Alarm))) []
+    ≡ record { by = 0; grain = Drained (only Alarm) } ∷ []
+drained_at_once = refl
 
 refused_at_once : with_move latch 0 (record { at = Waiting (Waits 0); stage = phase.Idle })
     (Made (event.Post (proc 0) (rendez 0) 0) answer.DoubleSleep) []
@@ -352,6 +374,9 @@ nothing_follows_the_end = refl
 does_what_its_call_does : program_does latch turns (In 1 Waking) ≡ Next.Wake (rendez 0) 1
 does_what_its_call_does = refl
 
+takes_notes_as_its_call : with_call latch turns Next.Drain ≡ Next.Drain
+takes_notes_as_its_call = refl
+
 has_nothing_to_do : program_does latch turns Ended ≡ Next.Over (Ok tt)
 has_nothing_to_do = refl
 
@@ -397,6 +422,30 @@ and_ends = refl
 
 begins_with_its_call : (list_program {At = ℕ} {Out = Unit}).call (record { at = 5; rest = [] }) ≡ 5
 begins_with_its_call = refl
+
+-- ---- the same machine with other names
+
+asks_under_another_name : next_with {Out = ℕ} {Other = ℕ} suc suc (Next.Ask 1) ≡ Next.Ask 2
+asks_under_another_name = refl
+
+answers_another_result : next_with {Request = ℕ} suc suc (Next.Over (Ok 1)) ≡ Next.Over (Ok 2)
+answers_another_result = refl
+
+keeps_its_fault : next_with {Request = ℕ} {Asked = ℕ} suc suc (Next.Over (Err fault.Worn))
+    ≡ Next.Over (Err fault.Worn)
+keeps_its_fault = refl
+
+sleeps_in_the_same : next_with {Request = ℕ} {Asked = ℕ} {Out = ℕ} {Other = ℕ} suc suc
+    (Next.Sleep (rendez 3) 7)
+    ≡ Next.Sleep (rendez 3) 7
+sleeps_in_the_same = refl
+
+hears_another_name : outcome_with suc (Outcome.Replied 1) ≡ Outcome.Replied 2
+hears_another_name = refl
+
+took_the_same : outcome_with {Reply = ℕ} suc (Outcome.Took (only Alarm))
+    ≡ Outcome.Took (only Alarm)
+took_the_same = refl
 
 -- ---- what an object lets go on
 

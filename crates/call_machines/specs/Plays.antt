@@ -2,7 +2,7 @@
 use Rattle.std.specs.Prelude.{◌≡◌, ℕ, zero, suc, Result, Ok, Err}
 use Rattle.sync_base.specs.declared.fault.Fault.{Fault}
 use Rattle.rendez_words.specs.Process.{pid_in}
-use Rattle.rendez_words.specs.Steps.{notes}
+use Rattle.rendez_words.specs.Steps.{drains, notes}
 use Rattle.sleep_wakeup.specs.Actions.{FailsAsleep, SleepsWell, WakesOne}
 use Rattle.waiting.specs.Waiting.{Point}
 use Rattle.call_machines.specs.Machine.{Machine, Next, Outcome}
@@ -27,6 +27,8 @@ module _ {Seat Request Reply Out : Type 0} (Serves : Request → Reply → Seat 
   HasDone (Next.Return set) Outcome.Went before after =
       (after.process ≡ notes before.process (pid_in before.process) set)
       × (after.seat ≡ before.seat)
+  HasDone Next.Drain (Outcome.Took set) before after =
+      (after.process ≡ drains before.process set) × (after.seat ≡ before.seat)
   HasDone does came before after = ⊥
 
   module _ {State : Type 0} (machine : Machine State Request Reply Out) where

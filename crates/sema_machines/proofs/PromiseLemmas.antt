@@ -25,7 +25,8 @@ use Rattle.sema_machines.specs.CallMachines.TryState.{Tried, Trying}
 use Rattle.sema_machines.specs.Holds.{Hold, HoldReply, Serves}
 use Rattle.sema_machines.specs.SemaRuns.{AcquiresInRuns, CallOut, CallState, HasGone, IsRunOf}
 use Rattle.sema_machines.specs.SemaRuns.{ReleasesInRuns, TriesInRuns, point_at}
-use Rattle.sema_machines.specs.SemaRuns.{requests_of, result_with, seat_at, sema_system}
+use Rattle.sema_machines.specs.SemaRuns.{requests_of, seat_at, sema_system}
+use Rattle.call_machines.specs.Machine.{result_with}
 use Rattle.sema_machines.specs.SemaRuns.{taken_unit}
 use Rattle.sema_machines.specs.SemaRuns.CallOut.{Sum, Taken}
 use Rattle.sema_machines.specs.SemaRuns.CallState.{Gives, Takes, Tries}

@@ -1,6 +1,6 @@
 -- Runs of a semaphore's calls: each process makes one call, by its own seat.
 use Rattle.std.specs.Prelude.{◌≡◌, ◌⊎◌, ◌≤◌, ◌<◌, ◌+◌, ◌-◌, ◌==◌, ℕ, true, false, if◌then◌else◌, Option}
-use Rattle.std.specs.Prelude.{Some, None, List, [], ◌∷◌, length, slice_index_or, Result, Ok, Err}
+use Rattle.std.specs.Prelude.{Some, None, List, [], ◌∷◌, length, slice_index_or, Result, Ok}
 use Rattle.histories.specs.declared.account.Account.{Account}
 use Rattle.histories.specs.Account.{numbers_from}
 use Rattle.histories.specs.History.{entries_by}
@@ -25,7 +25,7 @@ use Rattle.semaphore.specs.Releasing.{Releases}
 use Rattle.semaphore.specs.SemaHistory.{SemaEntry}
 use Rattle.semaphore.specs.Units.{SemaState, opening}
 use Rattle.waiting.specs.Waiting.{Point}
-use Rattle.call_machines.specs.Machine.{Next, Outcome}
+use Rattle.call_machines.specs.Machine.{Next, Outcome, next_with}
 use Rattle.call_machines.specs.Runs.{Act, IsOfCalls, Step, System, own_in}
 use Rattle.call_machines.specs.Runs.Act.{Asked, Made}
 use Rattle.call_machines.specs.WaitTables.{WaitState}
@@ -52,27 +52,13 @@ pub data CallOut : Type 0 where
   Taken : Semacquired → CallOut
   Sum : ℕ → CallOut
 
--- the same, with another result
-abbrev pub result_with : {Out Other : Type 0} → (Out → Other) → Result Out Fault
-    → Result Other Fault
-result_with out (Ok answer) = Ok (out answer)
-result_with out (Err why) = Err why
-
-abbrev pub next_with : {Request Out Other : Type 0} → (Out → Other) → Next Request Out
-    → Next Request Other
-next_with out (Next.Ask request) = Next.Ask request
-next_with out (Next.Sleep rendez number) = Next.Sleep rendez number
-next_with out (Next.Wake rendez level) = Next.Wake rendez level
-next_with out (Next.Return set) = Next.Return set
-next_with out (Next.Over answer) = Next.Over (result_with out answer)
-
 abbrev pub taken_unit : Unit {0} → CallOut
 taken_unit unit = Taken got.Acquired
 
 abbrev pub call_does : Sema → CallState → Next Hold CallOut
-call_does sema (Takes seat at) = next_with taken_unit ((acquire_machine sema seat).does at)
-call_does sema (Tries seat at) = next_with Taken (try_does seat at)
-call_does sema (Gives count at) = next_with Sum (release_does sema count at)
+call_does sema (Takes seat at) = next_with (λ hold. hold) taken_unit ((acquire_machine sema seat).does at)
+call_does sema (Tries seat at) = next_with (λ hold. hold) Taken (try_does seat at)
+call_does sema (Gives count at) = next_with (λ hold. hold) Sum (release_does sema count at)
 
 abbrev pub call_goes_on : Sema → CallState → Outcome HoldReply → CallState
 call_goes_on sema (Takes seat at) came = Takes seat ((acquire_machine sema seat).goes_on at came)
