@@ -96,6 +96,7 @@ module _ (space : TagSpace) (offered : Offered) (first : Point Member)
   served (Next.Sleep place count) (Outcome.Slept (Err why)) old new done = done
   served (Next.Wake other level) Outcome.Went old new done = done
   served (Next.Return set) Outcome.Went old new done = done
+  served Next.Drain (Outcome.Took set) old new done = done
   served request came old new done = absurd done
 
   -- where it finds nobody it goes on as the wait does
@@ -111,6 +112,7 @@ module _ (space : TagSpace) (offered : Offered) (first : Point Member)
   goes_alone Begun (Outcome.Replied group.Busy) old new done = refl
   goes_alone Begun (Outcome.Slept ended) old new done = absurd done
   goes_alone Begun Outcome.Went old new done = absurd done
+  goes_alone Begun (Outcome.Took set) old new done = absurd done
   goes_alone (Waits count) came old new done = refl
   goes_alone Asking came old new done = refl
   goes_alone (Leaving why) came old new done = refl
