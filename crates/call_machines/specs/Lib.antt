@@ -3,6 +3,7 @@ pub mod Ends
 pub mod Grain
 pub mod GrainEnds
 pub mod Machine
+pub mod Parts
 pub mod Plays
 pub mod Programs
 pub mod Runs
