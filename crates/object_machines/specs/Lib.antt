@@ -1,0 +1,2 @@
+pub mod ObjectCalls
+pub mod ObjectEnds
