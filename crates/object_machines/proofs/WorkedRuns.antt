@@ -9,7 +9,7 @@ use Rattle.sync_base.specs.declared.fault.Fault.{Fault}
 use Rattle.semaphore.specs.declared.acquiring.Semacquired.TheVariants as got
 use Rattle.semaphore.specs.declared.sema.Sema.{Sema}
 use Rattle.semaphore.specs.declared.sema_object.SemaCall.{SemaCall}
-use Rattle.semaphore.specs.declared.sema_object.SemaCall.TheVariants.{AcquireNow}
+use Rattle.semaphore.specs.declared.sema_object.SemaCall.TheVariants.{Acquire, AcquireNow}
 use Rattle.semaphore.specs.declared.sema_object.SemaReply.{SemaReply}
 use Rattle.semaphore.specs.declared.sema_object.SemaReply.TheVariants as reply
 use Rattle.semaphore.specs.declared.sema_object.Stage.TheVariants.{Granted, Idle as Resting}
@@ -47,6 +47,7 @@ use Rattle.object_machines.specs.ObjectCalls.ObjectCall.{AtSema, InSpace}
 use Rattle.object_machines.specs.ObjectCalls.ObjectOut.{FromSema}
 use Rattle.object_machines.specs.ObjectCalls.ObjectReply.{BySema, BySpace}
 use Rattle.object_machines.specs.ObjectCalls.ObjectRequest.{OfSema, OfSpace}
+use Rattle.object_machines.specs.ObjectEnds.{is_unworn}
 use Rattle.object_machines.specs.ObjectEnds.{AreApart, AreInOneWorld, BeginsBy, GoesOn, IsSemaHere}
 use Rattle.object_machines.specs.ObjectEnds.{calls_at, goes_on, sema_row, space_row}
 
@@ -215,7 +216,8 @@ module _ (lock : Locked SemaState SemaCall SemaReply)
   if_taken zero (Ok (FromSema (Taken got.Acquired))) = Some 1
   if_taken place answer = None
 
-  abbrev it_looks : ℕ → System (ProgramState ℕ ObjectCall) ObjectRequest ObjectReply Unit ObjectStates
+  abbrev it_looks : ℕ
+      → System (ProgramState ℕ ObjectCall) ObjectRequest ObjectReply Unit ObjectStates
   it_looks value =
       calls_at (objects_with value 0) (record { call = call_of; next = if_taken })
       (Some 0 ∷ None ∷ [])
@@ -347,6 +349,23 @@ module _ (lock : Locked SemaState SemaCall SemaReply)
       before zero low = inl (omega arith)
       before (suc zero) low = inl (omega arith)
       before (suc (suc number)) low = absurd (let two : suc (suc number) < 2 = low in omega arith)
+
+-- ---- what is worn out
+
+grants_are_worn : is_unworn (OfSema 0 (Alone (Acquire 0))) (BySema (replied_alone reply.Worn))
+    ≡ false
+grants_are_worn = refl
+
+a_wait_wears_nothing : is_unworn (OfSema 0 (Alone (Acquire 0)))
+    (BySema (replied_alone (reply.Wait 3))) ≡ true
+a_wait_wears_nothing = refl
+
+meetings_are_worn : is_unworn (OfSpace (Call 0 (record { 0 = 7 }) 10)) (BySpace group.Worn) ≡ false
+meetings_are_worn = refl
+
+a_meeting_wears_nothing : is_unworn (OfSpace (Call 0 (record { 0 = 7 }) 10))
+    (BySpace (group.Met 20 1 3)) ≡ true
+a_meeting_wears_nothing = refl
 
 -- two rows that have a Rendez in common are not apart
 two_share_one : AreApart (record { first = 0; size = 2 }) (record { first = 1; size = 2 }) → ⊥
