@@ -1,7 +1,6 @@
 -- The rows of the definitions, one by one, and what each forbids.
-use Rattle.std.proofs.Common.{◌≡◌, ◌<◌, ℕ, zero, suc, Bool, true, false, Option, Some, None, List, []}
-use Rattle.std.proofs.Common.{◌∷◌}
-use Rattle.std.proofs.Common.{Result, Ok, Err, refl, ap, arith}
+use Rattle.std.proofs.Common.{◌≡◌, ◌<◌, ℕ, zero, suc, Bool, true, false, Option, Some, None, List}
+use Rattle.std.proofs.Common.{[], ◌∷◌, Result, Ok, Err, refl, ap, arith}
 use Rattle.std.specs.Prelude.{⊤}
 use Rattle.sync_base.specs.declared.fault.Fault.{Fault}
 use Rattle.sync_base.specs.declared.fault.Fault.TheVariants as fault
@@ -16,7 +15,8 @@ use Rattle.sleep_core.specs.declared.phase.Phase.{Phase}
 use Rattle.sleep_core.specs.declared.phase.Phase.TheVariants as phase
 use Rattle.sleep_core.specs.State.{opening}
 use Rattle.waiting.specs.Waiting.{Promise}
-use Rattle.call_machines.specs.Grain.{AreMoves, Grain, May, Move, coarse_of, levels_by, notes_by, with_move}
+use Rattle.call_machines.specs.Grain.{AreMoves, Grain, May, Move, coarse_of, levels_by, notes_by}
+use Rattle.call_machines.specs.Grain.{with_move}
 use Rattle.call_machines.specs.Grain.Grain.{Drained, Heard, Noted, Refused, Returned, Went, Woken}
 use Rattle.call_machines.specs.GrainEnds.{AreApart, AreUnrefused, SleepsAfter}
 use Rattle.call_machines.specs.Replies.{AreAskedSo, AreHeardSo}
