@@ -1,0 +1,8 @@
+pub mod BlockLemmas
+pub mod FillLemmas
+pub mod HangLemmas
+pub mod PlayLemmas
+pub mod PutLemmas
+pub mod ReadLemmas
+pub mod RetryLemmas
+pub mod WakingLemmas

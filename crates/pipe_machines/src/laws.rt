@@ -1,0 +1,24 @@
+//! What the contracts of a pipe's calls say, by machines. Each law is a function that does nothing:
+//! its contract is the law.
+ghost use Rattle.pipe_machines.specs.BlockMachine.{BlockReadsArePlays};
+ghost use Rattle.pipe_machines.specs.HangMachine.{ReadHangupsArePlays, WriteHangupsArePlays};
+ghost use Rattle.pipe_machines.specs.ReadMachine.{ReadsArePlays, TriesArePlays};
+ghost use Rattle.pipe_machines.specs.WriteMachine.{WritesArePlays};
+
+/// A hangup is as its contract says if and only if its machine plays so.
+pub fn hangups_are_plays()
+    ensures writers { WriteHangupsArePlays }
+    ensures readers { ReadHangupsArePlays }
+{}
+
+/// So is a write.
+pub fn writes_are_plays()
+    ensures { WritesArePlays }
+{}
+
+/// So is a read, whether it waits or not, and a read of a whole block.
+pub fn reads_are_plays()
+    ensures tries { TriesArePlays }
+    ensures reads { ReadsArePlays }
+    ensures blocks { BlockReadsArePlays }
+{}
