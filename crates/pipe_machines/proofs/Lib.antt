@@ -6,3 +6,5 @@ pub mod PutLemmas
 pub mod ReadLemmas
 pub mod RetryLemmas
 pub mod WakingLemmas
+pub mod WorkedDirection
+pub mod WorkedRuns
