@@ -7,4 +7,5 @@ pub mod ReadLemmas
 pub mod RetryLemmas
 pub mod WakingLemmas
 pub mod WorkedDirection
+mod WorkedRows
 pub mod WorkedRuns

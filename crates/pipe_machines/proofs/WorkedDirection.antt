@@ -1,6 +1,6 @@
 -- A direction as an object that replies to each request, and the system of processes that call it,
 -- for the worked runs. Own: a write that was accepted and does not stand is not read.
-use Rattle.std.proofs.Common.{◌≡◌, ◌+◌, ℕ, nat_lt, Bool, true, false, if◌then◌else◌, List, length}
+use Rattle.std.proofs.Common.{◌+◌, ℕ, nat_lt, Bool, true, false, if◌then◌else◌, List, length}
 use Rattle.std.proofs.Common.{take, Option, Some, None, Result, Ok, Err}
 use Rattle.std.specs.Prelude.{◌==◌}
 use Rattle.sync_base.specs.declared.fault.Fault.{Fault}

@@ -1,6 +1,6 @@
 -- Runs of a pipe's calls, computed: waits that a write, a read and a hangup end, a read between a put
 -- and the moment its write stands, a stream read that wakes within its wait, and a deadlock.
-use Rattle.std.proofs.Common.{◌≡◌, ◌<◌, inr, ℕ, zero, suc, Some, None, List, [], ◌∷◌, Ok, Err, refl}
+use Rattle.std.proofs.Common.{◌≡◌, ◌<◌, inr, ℕ, zero, suc, Some, None, List, [], ◌∷◌, Ok, refl}
 use Rattle.std.proofs.Common.{arith}
 use Rattle.sync_base.specs.declared.fault.Fault.TheVariants as fault
 use Rattle.sync_base.specs.declared.ids.Pid.{Pid}
@@ -32,22 +32,22 @@ use Rattle.pipe_machines.specs.WriteMachine.{PutState}
 use Rattle.pipe_machines.proofs.WorkedDirection.{CallOut, CallState, Direction, pipe_system}
 use Rattle.pipe_machines.proofs.WorkedDirection.CallState.{Hangs, Reads, Writes}
 
-abbrev a : List ℕ
+abbrev pub a : List ℕ
 a = 97 ∷ 98 ∷ []
 
-abbrev b : List ℕ
+abbrev pub b : List ℕ
 b = 99 ∷ []
 
 -- room for three bytes
-abbrev room : List ℕ
+abbrev pub room : List ℕ
 room = 0 ∷ 0 ∷ 0 ∷ []
 
 -- it holds so many writes, of two writers
-abbrev key : ℕ → Key
+abbrev pub key : ℕ → Key
 key limit = record { limit = limit; first = 0; writers = 2 }
 
 -- the reader sleeps in the Rendez 0, and the writers in 1 and 2
-abbrev row : Mode → Row
+abbrev pub row : Mode → Row
 row mode = record { first = 0; writers = 2; mode = mode; small = omega arith }
 
 -- ---- calls at their start
