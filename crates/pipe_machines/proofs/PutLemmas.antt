@@ -1,6 +1,6 @@
 -- What the machine of a write plays is what the contract says, and the other way round.
 use Rattle.std.proofs.Common.{◌≡◌, ◌<◌, ◌≤◌, ℕ, Bool, true, false, Result, Ok, Err}
-use Rattle.std.proofs.Common.{if◌then◌else◌, length, refl, sym, subst, ap, ◌∙◌, arith}
+use Rattle.std.proofs.Common.{if◌then◌else◌, length, refl, sym, subst, ◌∙◌, arith}
 use Rattle.std.specs.Prelude.{⊤, nat_le}
 use Rattle.histories.specs.declared.account.Account.{Account}
 use Rattle.rendez_words.specs.declared.words.Words.{Words}
@@ -32,7 +32,7 @@ use Rattle.pipe_machines.specs.Tries.{TryState}
 use Rattle.pipe_machines.specs.Tries.TryState.{Fails, Tries}
 use Rattle.pipe_machines.specs.WriteMachine.{PutState, WritesArePlays, WritesSo}
 use Rattle.pipe_machines.specs.WriteMachine.{after_put, put_does, put_goes_on, put_machine}
-use Rattle.pipe_machines.specs.WriteMachine.{write_machine}
+use Rattle.pipe_machines.specs.WriteMachine.{write_begins, write_machine}
 use Rattle.pipe_machines.specs.WriteMachine.PutState.{Noting, Putting, Standing, Told, WakingReader}
 use Rattle.pipe_machines.proofs.PlayLemmas.{Comes, EndsSo, at_start, ends_so, made_at_once, more}
 use Rattle.pipe_machines.proofs.PlayLemmas.{over_at_once, whole}
@@ -166,174 +166,188 @@ module _ (call : WriteCall) (first : Writer) where
 
 -- ---- the whole write
 
-module _ (call : WriteCall) (words : Words) (old : Writer) (answer : Result ℕ Fault) (new : Writer)
-  where
-    abbrev MakesFrom : TryState PutState → Type 0
-    MakesFrom start =
-        Makes (ServesWriter call.key) (write_machine call) (record { state = start; at = old })
-        answer new
+-- an answer that comes after the first two refusals
+pub record IsBegun (answer : Result ℕ Fault) : Type 0 where
+  pub fits : ¬ (answer ≡ Err fault.TooBig)
+  pub owned : ¬ (answer ≡ Err fault.NoRendez)
 
-    abbrev rendez : RendezId
-    rendez = writer_rendez call.row call.writer
+-- with memory, unless there was none
+abbrev pub has_memory : Result ℕ Fault → Bool
+has_memory (Err fault.Memory) = false
+has_memory other = true
 
-    -- a write that puts its bytes
-    waits : MakesFrom (Tries Putting) → Waited (writing call) rendez old answer new
-    waits makes =
-        is_wait (ServesWriter call.key) (put_machine call) Putting rendez (AsksForRoom call) (λ seat. ⊤)
-        (λ from to number fits asks. tt) old tt
-        (λ from told to fits makes. tells call from told to makes) answer new makes
+module _ (call : WriteCall) (words : Words) (old : Writer) (answer : Result ℕ Fault)
+    (new : Writer) where
+  abbrev MakesFrom : TryState PutState → Type 0
+  MakesFrom start =
+      Makes (ServesWriter call.key) (write_machine call) (record { state = start; at = old })
+      answer new
 
-    waits_so : Waited (writing call) rendez old answer new → MakesFrom (Tries Putting)
-    waits_so waited =
-        is_play (ServesWriter call.key) (put_machine call) Putting rendez (AsksForRoom call) (λ seat. ⊤)
-        (λ from to number fits asks. tt) old tt
-        (λ from told to fits asks. plays call from told to asks) answer new waited
+  abbrev rendez : RendezId
+  rendez = writer_rendez call.row call.writer
 
-    -- a write that is refused at once
-    failed : (why : Fault) → MakesFrom (Fails why) → (answer ≡ Err why) × (new ≡ old)
-    failed why makes =
-        over_at_once (ServesWriter call.key) (write_machine call) (Fails why) old (Err why) refl answer
-        new makes
+  -- a write that puts its bytes
+  waits : MakesFrom (Tries Putting) → Waited (writing call) rendez old answer new
+  waits makes =
+      is_wait (ServesWriter call.key) (put_machine call) Putting rendez (AsksForRoom call) (λ seat. ⊤)
+      (λ from to number fits asks. tt) old tt
+      (λ from told to fits makes. tells call from told to makes) answer new makes
 
-    fails : (why : Fault) → answer ≡ Err why → new ≡ old → MakesFrom (Fails why)
-    fails why is same =
-        made_at_once (ServesWriter call.key) (write_machine call) (Fails why) old (Err why) refl answer
-        new is same
+  waits_so : Waited (writing call) rendez old answer new → MakesFrom (Tries Putting)
+  waits_so waited =
+      is_play (ServesWriter call.key) (put_machine call) Putting rendez (AsksForRoom call) (λ seat. ⊤)
+      (λ from to number fits asks. tt) old tt
+      (λ from told to fits asks. plays call from told to asks) answer new waited
 
-    -- ---- its machine's plays are as promised
+  -- a write that is refused at once
+  failed : (why : Fault) → MakesFrom (Fails why) → (answer ≡ Err why) × (new ≡ old)
+  failed why makes =
+      over_at_once (ServesWriter call.key) (write_machine call) (Fails why) old (Err why) refl answer
+      new makes
 
-    -- refused as too big
-    too_big : ATOMIC_SIZE < length call.bytes → (answer ≡ Err fault.TooBig) × (new ≡ old)
-        → WritesSo call words old answer new
-    too_big large is =
+  fails : (why : Fault) → answer ≡ Err why → new ≡ old → MakesFrom (Fails why)
+  fails why is same =
+      made_at_once (ServesWriter call.key) (write_machine call) (Fails why) old (Err why) refl answer
+      new is same
+
+  -- ---- its machine's plays are as promised
+
+  -- refused as too big
+  too_big : ATOMIC_SIZE < length call.bytes → (answer ≡ Err fault.TooBig) × (new ≡ old)
+      → WritesSo call words old answer new
+  too_big large is =
+      record {
+        too_big = (λ same. large, λ same. is.0);
+        no_rendez = λ fits. absurd (omega (arith, large, fits));
+        wrote = subst (λ (a : Result ℕ Fault). Writes call old a new) (sym is.0) is.1;
+      }
+
+  -- refused in a kernel that lacks Rendez
+  foreign : length call.bytes ≤ ATOMIC_SIZE → ¬ OwnsRow words call.row
+      → (answer ≡ Err fault.NoRendez) × (new ≡ old) → WritesSo call words old answer new
+  foreign fits lacks is =
+      record {
+        too_big = (
+          λ same. absurd (no_reason same),
+          λ large. absurd (omega (arith, large, fits)),
+        );
+        no_rendez = λ low. (λ same. lacks, λ none. is.0);
+        wrote = subst (λ (a : Result ℕ Fault). Writes call old a new) (sym is.0) is.1;
+      }
+    where
+      no_reason : answer ≡ Err fault.TooBig → ⊥
+      no_reason same =
+          let both : ◌≡◌ {A = Result ℕ Fault} (Err fault.NoRendez) (Err fault.TooBig) =
+          sym is.0 ∙ same in
+          cc
+
+  -- it began
+  tried : Writes call old answer new → IsBegun answer → length call.bytes ≤ ATOMIC_SIZE
+      → OwnsRow words call.row → WritesSo call words old answer new
+  tried did is fits owns =
+      record {
+        too_big = (
+          λ same. absurd (is.fits same),
+          λ large. absurd (omega (arith, large, fits)),
+        );
+        no_rendez = λ low. (λ same. absurd (is.owned same), λ lacks. absurd (lacks owns));
+        wrote = did;
+      }
+
+  -- for want of memory it is refused for no other reason
+  other_reason : (why : Fault) → ¬ (fault.Memory ≡ why) → answer ≡ Err fault.Memory
+      → answer ≡ Err why → ⊥
+  other_reason why other is same =
+      let both : ◌≡◌ {A = Result ℕ Fault} (Err fault.Memory) (Err why) = sym is ∙ same in
+      other cc
+
+  -- from where its first try begins
+  pub begun : (memory : Bool) → MakesFrom (write_begins memory)
+      → Writes call old answer new × IsBegun answer
+  begun true makes =
+      let waited = waits makes in
+      let asked = is_asked_write call old answer new waited in (
+        writes_so call old answer new waited,
         record {
-          too_big = (λ same. large, λ same. is.0);
-          no_rendez = λ fits. absurd (omega (arith, large, fits));
-          wrote = subst (λ (a : Result ℕ Fault). Writes call old a new) (sym is.0) is.1;
-        }
-
-    -- refused for another reason than these two
-    refused : (why : Fault) → (answer ≡ Err why) × (new ≡ old) → length call.bytes ≤ ATOMIC_SIZE
-        → (¬ (why ≡ fault.TooBig)) → (new ≡ old → Writes call old (Err why) new)
-        → ((why ≡ fault.NoRendez → ¬ OwnsRow words call.row)
-        × (¬ OwnsRow words call.row → why ≡ fault.NoRendez))
-        → WritesSo call words old answer new
-    refused why is fits other did foreign =
+          fits = λ same. subst IsAsked same asked;
+          owned = λ same. subst IsAsked same asked;
+        },
+      )
+  begun false makes =
+      let is = failed fault.Memory makes in (
+        subst (λ (a : Result ℕ Fault). Writes call old a new) (sym is.0) is.1,
         record {
-          too_big = (
-            λ same. absurd (other (reason same)),
-            λ large. absurd (omega (arith, large, fits)),
-          );
-          no_rendez = λ low. (
-            λ same. foreign.0 (reason same),
-            λ lacks. is.0 ∙ ap (λ (w : Fault). Err w) (foreign.1 lacks),
-          );
-          wrote = subst (λ (a : Result ℕ Fault). Writes call old a new) (sym is.0) (did is.1);
-        }
-      where
-        reason : {given : Fault} → answer ≡ Err given → why ≡ given
-        reason {given = given} same =
-            let both : ◌≡◌ {A = Result ℕ Fault} (Err why) (Err given) = sym is.0 ∙ same in cc
+          fits = λ same. other_reason fault.TooBig (λ one. cc) is.0 same;
+          owned = λ same. other_reason fault.NoRendez (λ one. cc) is.0 same;
+        },
+      )
 
-    -- it put its bytes
-    put : Waited (writing call) rendez old answer new → length call.bytes ≤ ATOMIC_SIZE
-        → OwnsRow words call.row → WritesSo call words old answer new
-    put waited fits owns =
-        let asked = is_asked_write call old answer new waited in
-        record {
-          too_big = (
-            λ same. absurd (subst IsAsked same asked),
-            λ large. absurd (omega (arith, large, fits)),
-          );
-          no_rendez = λ low. (
-            λ same. absurd (subst IsAsked same asked),
-            λ lacks. absurd (lacks owns),
-          );
-          wrote = writes_so call old answer new waited;
-        }
+  writes : (memory fits has : Bool) → nat_le (length call.bytes) ATOMIC_SIZE ≡ fits
+      → has_row words call.row ≡ has
+      → MakesFrom (
+      if fits then (if has then write_begins memory else Fails fault.NoRendez)
+      else Fails fault.TooBig
+      )
+      → WritesSo call words old answer new
+  writes memory false has fits_is has_is makes =
+      too_big (is_above (length call.bytes) ATOMIC_SIZE fits_is) (failed fault.TooBig makes)
+  writes memory true false fits_is has_is makes =
+      foreign (is_at_most (length call.bytes) ATOMIC_SIZE fits_is)
+      (lacks_row words call.row has_is) (failed fault.NoRendez makes)
+  writes memory true true fits_is has_is makes =
+      let did = begun memory makes in
+      tried did.0 did.1 (is_at_most (length call.bytes) ATOMIC_SIZE fits_is)
+      (has_row_owns words call.row has_is)
 
-    writes : (memory fits has : Bool) → nat_le (length call.bytes) ATOMIC_SIZE ≡ fits
-        → has_row words call.row ≡ has
-        → MakesFrom (
-        if fits
-        then (
-        if has then (if memory then Tries Putting else Fails fault.Memory)
-        else Fails fault.NoRendez
-        )
-        else Fails fault.TooBig
-        )
-        → WritesSo call words old answer new
-    writes memory false has fits_is has_is makes =
-        too_big (is_above (length call.bytes) ATOMIC_SIZE fits_is)
-        (failed fault.TooBig makes)
-    writes memory true false fits_is has_is makes =
-        let lacks = lacks_row words call.row has_is in
-        refused fault.NoRendez
-        (failed fault.NoRendez makes)
-        (is_at_most (length call.bytes) ATOMIC_SIZE fits_is) (λ same. cc) (λ same. same)
-        (λ same. lacks, λ none. refl)
-    writes true true true fits_is has_is makes =
-        put (waits makes) (is_at_most (length call.bytes) ATOMIC_SIZE fits_is)
-        (has_row_owns words call.row has_is)
-    writes false true true fits_is has_is makes =
-        let owns = has_row_owns words call.row has_is in
-        refused fault.Memory
-        (failed fault.Memory makes)
-        (is_at_most (length call.bytes) ATOMIC_SIZE fits_is) (λ same. cc) (λ same. same)
-        (λ same. absurd cc, λ none. absurd (none owns))
+  -- ---- and what is promised is played
 
-    -- ---- and what is promised is played
+  -- it is refused for what comes first
+  same_place : (why : Fault) → answer ≡ Err why → (did : Writes call old answer new)
+      → (Writes call old (Err why) new → new ≡ old) → new ≡ old
+  same_place why is did idle =
+      idle (subst (λ (a : Result ℕ Fault). Writes call old a new) is did)
 
-    -- with memory, unless there was none
-    abbrev has_memory : Result ℕ Fault → Bool
-    has_memory (Err fault.Memory) = false
-    has_memory other = true
+  made_by : (a : Result ℕ Fault) → answer ≡ a → IsBegun a → Writes call old a new
+      → MakesFrom (write_begins (has_memory a))
+  made_by (Ok number) is begun did =
+      waits_so (subst (λ (a : Result ℕ Fault). Waited (writing call) rendez old a new) (sym is) did)
+  made_by (Err fault.TooBig) is begun did = absurd (begun.fits refl)
+  made_by (Err fault.NoRendez) is begun did = absurd (begun.owned refl)
+  made_by (Err fault.Memory) is begun did = fails fault.Memory is did
+  made_by (Err why) is begun did =
+      waits_so (subst (λ (a : Result ℕ Fault). Waited (writing call) rendez old a new) (sym is) did)
 
-    -- it is refused for what comes first
-    same_place : (why : Fault) → answer ≡ Err why → (did : Writes call old answer new)
-        → (Writes call old (Err why) new → new ≡ old) → new ≡ old
-    same_place why is did idle =
-        idle (subst (λ (a : Result ℕ Fault). Writes call old a new) is did)
+  -- from where its first try begins
+  pub made : IsBegun answer → Writes call old answer new
+      → MakesFrom (write_begins (has_memory answer))
+  made begun did = made_by answer refl begun did
 
-    made : (a : Result ℕ Fault) → answer ≡ a → ¬ (a ≡ Err fault.TooBig) → ¬ (a ≡ Err fault.NoRendez)
-        → Writes call old a new
-        → MakesFrom (if has_memory a then Tries Putting else Fails fault.Memory)
-    made (Ok number) is big none did =
-        waits_so (subst (λ (a : Result ℕ Fault). Waited (writing call) rendez old a new) (sym is) did)
-    made (Err fault.TooBig) is big none did = absurd (big refl)
-    made (Err fault.NoRendez) is big none did = absurd (none refl)
-    made (Err fault.Memory) is big none did = fails fault.Memory is did
-    made (Err why) is big none did =
-        waits_so (subst (λ (a : Result ℕ Fault). Waited (writing call) rendez old a new) (sym is) did)
-
-    played : (so : WritesSo call words old answer new) (fits has : Bool)
-        → nat_le (length call.bytes) ATOMIC_SIZE ≡ fits → has_row words call.row ≡ has
-        → MakesFrom (
-        if fits
-        then (
-        if has then (if has_memory answer then Tries Putting else Fails fault.Memory)
-        else Fails fault.NoRendez
-        )
-        else Fails fault.TooBig
-        )
-    played so false has fits_is has_is =
-        let is = so.too_big.1 (is_above (length call.bytes) ATOMIC_SIZE fits_is) in
-        fails fault.TooBig is (same_place fault.TooBig is so.wrote (λ same. same))
-    played so true false fits_is has_is =
-        let fits = is_at_most (length call.bytes) ATOMIC_SIZE fits_is in
-        let is = (so.no_rendez fits).1 (lacks_row words call.row has_is) in
-        fails fault.NoRendez is (same_place fault.NoRendez is so.wrote (λ same. same))
-    played so true true fits_is has_is =
-        let fits = is_at_most (length call.bytes) ATOMIC_SIZE fits_is in
-        made answer refl
-        (λ big. let large = so.too_big.0 big in omega (arith, large, fits))
-        (λ none. (so.no_rendez fits).0 none (has_row_owns words call.row has_is)) so.wrote
+  played : (so : WritesSo call words old answer new) (fits has : Bool)
+      → nat_le (length call.bytes) ATOMIC_SIZE ≡ fits → has_row words call.row ≡ has
+      → MakesFrom (
+      if fits
+      then (if has then write_begins (has_memory answer) else Fails fault.NoRendez)
+      else Fails fault.TooBig
+      )
+  played so false has fits_is has_is =
+      let is = so.too_big.1 (is_above (length call.bytes) ATOMIC_SIZE fits_is) in
+      fails fault.TooBig is (same_place fault.TooBig is so.wrote (λ same. same))
+  played so true false fits_is has_is =
+      let fits = is_at_most (length call.bytes) ATOMIC_SIZE fits_is in
+      let is = (so.no_rendez fits).1 (lacks_row words call.row has_is) in
+      fails fault.NoRendez is (same_place fault.NoRendez is so.wrote (λ same. same))
+  played so true true fits_is has_is =
+      let fits = is_at_most (length call.bytes) ATOMIC_SIZE fits_is in
+      made (record {
+        fits = λ big. let large = so.too_big.0 big in omega (arith, large, fits);
+        owned = λ none. (so.no_rendez fits).0 none (has_row_owns words call.row has_is);
+      }) so.wrote
 
 -- a write by its machine, both ways
 pub writes_are_plays : WritesArePlays
 writes_are_plays call words old answer new = (
   λ so. record {
-    memory = has_memory call words old answer new answer;
+    memory = has_memory answer;
     plays = played call words old answer new so (nat_le (length call.bytes) ATOMIC_SIZE)
         (has_row words call.row) refl refl;
   },

@@ -4,3 +4,4 @@ pub mod ReadMachine
 pub mod Requests
 pub mod Tries
 pub mod WriteMachine
+pub mod LongMachine

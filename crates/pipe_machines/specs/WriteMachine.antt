@@ -1,7 +1,7 @@
 -- The machine of a write: it puts its bytes; if that is accepted the write stands, and the reader
 -- is woken with its number. If there is no room it waits and puts them again. From write(2), pipe(2)
 -- and pipe(3).
-use Rattle.std.specs.Prelude.{◌↔◌, ◌<◌, ◌≤◌, ℕ, nat_le, Bool, Result, Ok, length}
+use Rattle.std.specs.Prelude.{◌↔◌, ◌<◌, ◌≤◌, ℕ, nat_le, Bool, true, false, Result, Ok, length}
 use Rattle.std.specs.Prelude.{IsErrOf, if◌then◌else◌}
 use Rattle.sync_base.specs.declared.fault.Fault.{Fault}
 use Rattle.sync_base.specs.declared.fault.Fault.TheVariants as fault
@@ -43,6 +43,11 @@ after_put PipeReply.Hungup = Noting
 after_put PipeReply.Worn = Told (reply.Refused fault.Worn)
 after_put other = Putting
 
+-- where the first try begins, by whether there is memory for the block
+abbrev pub write_begins : Bool → TryState PutState
+write_begins true = Tries Putting
+write_begins false = Fails fault.Memory
+
 module _ (call : WriteCall) where
   abbrev pub put_does : PutState → Next PipeRequest (WaitReply ℕ)
   put_does Putting = Next.Ask (Put call.writer call.bytes)
@@ -71,11 +76,7 @@ module _ (call : WriteCall) where
   abbrev pub write_start : Words → Bool → TryState PutState
   write_start words memory =
       if nat_le (length call.bytes) ATOMIC_SIZE
-      then (
-      if has_row words call.row
-      then (if memory then Tries Putting else Fails fault.Memory)
-      else Fails fault.NoRendez
-      )
+      then (if has_row words call.row then write_begins memory else Fails fault.NoRendez)
       else Fails fault.TooBig
 
 -- ---- what the contract says is what the machine plays

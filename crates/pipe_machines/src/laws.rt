@@ -2,6 +2,7 @@
 //! its contract is the law.
 ghost use Rattle.pipe_machines.specs.BlockMachine.{BlockReadsArePlays};
 ghost use Rattle.pipe_machines.specs.HangMachine.{ReadHangupsArePlays, WriteHangupsArePlays};
+ghost use Rattle.pipe_machines.specs.LongMachine.{LongPlaysAreWrites, OwnLongWritesArePlays};
 ghost use Rattle.pipe_machines.specs.ReadMachine.{ReadsArePlays, TriesArePlays};
 ghost use Rattle.pipe_machines.specs.WriteMachine.{WritesArePlays};
 
@@ -21,4 +22,11 @@ pub fn reads_are_plays()
     ensures tries { TriesArePlays }
     ensures reads { ReadsArePlays }
     ensures blocks { BlockReadsArePlays }
+{}
+
+/// What the machine of a long write plays is as its contract says; and what the contract says is
+/// played, if the kernel of its process has the Rendez of the direction.
+pub fn long_writes_are_plays()
+    ensures plays { LongPlaysAreWrites }
+    ensures own { OwnLongWritesArePlays }
 {}
