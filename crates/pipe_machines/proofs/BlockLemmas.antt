@@ -26,6 +26,7 @@ use Rattle.pipe_machines.specs.BlockMachine.{BlockReadsArePlays, BlockState, Rea
 use Rattle.pipe_machines.specs.BlockMachine.{after_block, block_does, block_goes_on, block_machine}
 use Rattle.pipe_machines.specs.BlockMachine.{block_try, got_block}
 use Rattle.pipe_machines.specs.BlockMachine.BlockState.{Reading, Told, WakingWriters}
+use Rattle.pipe_machines.specs.Requests.{Direction}
 use Rattle.pipe_machines.specs.Requests.{PipeReply, PipeRequest, ReadsRest, ServesBlock}
 use Rattle.pipe_machines.specs.Requests.{ServesReader, has_row}
 use Rattle.pipe_machines.specs.Tries.{TryState}
@@ -185,6 +186,9 @@ module _ (key : Key) (row : Row) (first : Calling) where
 
 module _ (key : Key) (row : Row) (words : Words) (old : Calling) (answer : Result ReadAnswer Fault)
     (new : Calling) where
+  abbrev here : Direction
+  here = record { key = key; row = row; words = words }
+
   abbrev MakesFrom : TryState BlockState → Type 0
   MakesFrom start =
       Makes (ServesReader key) (block_machine row) (record { state = start; at = old }) answer new
@@ -207,7 +211,7 @@ module _ (key : Key) (row : Row) (words : Words) (old : Calling) (answer : Resul
   -- what its machine plays
   reads : (has : Bool) → has_row words row ≡ has
       → MakesFrom (if has then Tries Reading else Fails fault.NoRendez)
-      → ReadsBlockSo key row words old answer new
+      → ReadsBlockSo here old answer new
   reads true has_is makes =
       let waited = waits makes in
       let asked = is_asked_read (AsksForBlock key row) rendez (λ old new why asks. asks) old answer
@@ -239,7 +243,7 @@ module _ (key : Key) (row : Row) (words : Words) (old : Calling) (answer : Resul
       waits_so (subst (λ (a : Result ReadAnswer Fault).
       Waited (block_reading key row) rendez old a new) (sym is) did)
 
-  played : ReadsBlockSo key row words old answer new → (has : Bool) → has_row words row ≡ has
+  played : ReadsBlockSo here old answer new → (has : Bool) → has_row words row ≡ has
       → MakesFrom (if has then Tries Reading else Fails fault.NoRendez)
   played so true has_is =
       asked answer refl (λ none. so.no_rendez.0 none (has_row_owns words row has_is)) so.read
@@ -251,7 +255,7 @@ module _ (key : Key) (row : Row) (words : Words) (old : Calling) (answer : Resul
 
 -- a read of a block by its machine, both ways
 pub block_reads_are_plays : BlockReadsArePlays
-block_reads_are_plays key row words old answer new = (
-  λ so. played key row words old answer new so (has_row words row) refl,
-  λ makes. reads key row words old answer new (has_row words row) refl makes,
+block_reads_are_plays at old answer new = (
+  λ so. played at.key at.row at.words old answer new so (has_row at.words at.row) refl,
+  λ makes. reads at.key at.row at.words old answer new (has_row at.words at.row) refl makes,
 )

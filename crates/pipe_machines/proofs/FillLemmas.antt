@@ -149,7 +149,8 @@ module _ (key : Key) (row : Row) (first : Calling) where
     longer_last = reads.number_is ∙ by is.rest_none
       where
         by : (filling ≡ begins first.seat.taker)
-            ⊎ ((has_none filling.parts ≡ false) × (goes filling.parts ≡ true → now.taker.rest ≡ None))
+            ⊎ ((has_none filling.parts ≡ false)
+            × (goes filling.parts ≡ true → now.taker.rest ≡ None))
             → number_of now.taker.rest reads.part
             ≡ last_number first.seat.taker.rest longer.parts
         by (inl begun) =
@@ -252,8 +253,11 @@ module _ (key : Key) (row : Row) (first : Calling) where
 
     -- how far it came, and this is its answer
     pub record HasTried (answer : Result Out Fault) (now : Calling) : Type 0 where
+      -- how far it came
       pub came : ReadOutcome
+      -- its answer is told by how far it came
       pub answer_is : answer ≡ Ok (told came)
+      -- and it was such a try
       pub tried : TriesOn key row first came now
 
     -- what each state of the machine says of the try so far
@@ -358,8 +362,10 @@ module _ (key : Key) (row : Row) (first : Calling) where
         by Message = refl
         by Stream = let low = has_room first.seat.buffer some in grind (arith, nat_tests)
 
+    -- what its machine plays, with room in the buffer
     pub tried : first.seat.buffer ≢ [] → (answer : Result Out Fault) (new : Calling)
-        → Makes Serves (fill_machine row room told) (record { state = start; at = first }) answer new
+        → Makes Serves (fill_machine row room told) (record { state = start; at = first }) answer
+        new
         → HasTried answer new
     tried some answer new makes =
         by (ends_so Serves (fill_machine row room told) start first Says
@@ -550,6 +556,7 @@ module _ (key : Key) (row : Row) (first : Calling) where
           ))
           wakes
 
+    -- each such try is played, with room in the buffer
     pub plays : first.seat.buffer ≢ [] → (came : ReadOutcome) (new : Calling)
         → TriesOn key row first came new
         → Makes Serves (fill_machine row room told) (record { state = start; at = first })

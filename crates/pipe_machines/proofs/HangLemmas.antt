@@ -4,15 +4,16 @@ use Rattle.histories.specs.declared.account.Account.{Account}
 use Rattle.sync_base.specs.declared.limits.TheConstants.{TOP_LEVEL}
 use Rattle.rendez_words.specs.Process.{Process}
 use Rattle.sleep_wakeup.specs.Actions.{WakesOne}
-use Rattle.sleep_wakeup.specs.Kernel.{Running}
 use Rattle.block_queue.specs.declared.entry.Entry.{Entry}
 use Rattle.block_queue.specs.declared.view.Key.{Key}
 use Rattle.pipe_dev.specs.declared.row.Row.{Row}
 use Rattle.pipe_dev.specs.Filling.{Lending}
-use Rattle.pipe_dev.specs.Rendezes.{WakesAll, WakesIfKnown, reader_rendez}
-use Rattle.waiting.specs.Waiting.{Point, point}
+use Rattle.pipe_dev.specs.Rendezes.{WakesAll, reader_rendez}
+use Rattle.waiting.specs.Waiting.{Point}
 use Rattle.call_machines.specs.Machine.{Next, Outcome}
 use Rattle.call_machines.specs.Plays.{HasDone, Makes}
+use Rattle.pipe_machines.specs.HangMachine.{WakesBoth}
+use Rattle.pipe_machines.specs.Requests.{Direction}
 use Rattle.pipe_machines.specs.HangMachine.{HangState}
 use Rattle.pipe_machines.specs.HangMachine.{ReadHangupsArePlays, WriteHangupsArePlays, hang_does}
 use Rattle.pipe_machines.specs.HangMachine.{hang_goes_on, hang_machine, hung_up}
@@ -48,8 +49,11 @@ module _ {Seat : Type 0} (Serves : PipeRequest → PipeReply → Seat → Seat �
 
   -- what it did, by whether its kernel has the Rendez
   pub record HasHungUp (after : Point Seat) : Type 0 where
+    -- its seat hung the direction up
     pub hung : Hangs after.seat
+    -- and woke both sides, where it knows them
     pub woke : known ≡ true → WakesAll row first.process after.process
+    -- else it did nothing more than that
     pub alone : known ≡ false → after.process ≡ first.process
 
   abbrev Says : HangState → Point Seat → Type 0
@@ -68,7 +72,8 @@ module _ {Seat : Type 0} (Serves : PipeRequest → PipeReply → Seat → Seat �
       → Serves (Hang number) reply first.seat now.seat → now.process ≡ first.process
       → Says (hang_goes_on row known number Hanging (Outcome.Replied reply)) now
   replied_so reply now serves idle =
-      subst (λ (r : PipeReply). Says (hang_goes_on row known number Hanging (Outcome.Replied r)) now)
+      subst (λ (r : PipeReply).
+      Says (hang_goes_on row known number Hanging (Outcome.Replied r)) now)
       (sym is) (hung_so known now refl
       (subst (λ (r : PipeReply). Serves (Hang number) r first.seat now.seat) is serves) idle)
     where
@@ -109,7 +114,8 @@ module _ {Seat : Type 0} (Serves : PipeRequest → PipeReply → Seat → Seat �
       in_state : (at : HangState) → hang_does row known number at ≡ Next.Over (Ok tt)
           → Says at after → HasHungUp after
       in_state (WakingWriters woken) over says =
-          let all = all_are_woken Serves row TOP_LEVEL (tt {0}) IsHungUp woken (Ok tt) after says over in
+          let all = all_are_woken Serves row TOP_LEVEL (tt {0}) IsHungUp woken (Ok tt) after says
+          over in
           record {
             hung = all.before.hung;
             woke = λ is. record {
@@ -138,6 +144,7 @@ module _ {Seat : Type 0} (Serves : PipeRequest → PipeReply → Seat → Seat �
       (Outcome.Replied PipeReply.Hung) first (record { seat = seat; process = first.process })
       (at_start Serves (hang_machine row known number) Hanging first) (hung, refl)
 
+  -- what it did so is played by its machine
   pub play_of_hang : (after : Point Seat) → HasHungUp after
       → Makes Serves (hang_machine row known number) (record { state = Hanging; at = first })
       (Ok tt) after
@@ -167,62 +174,63 @@ module _ {Seat : Type 0} (Serves : PipeRequest → PipeReply → Seat → Seat �
           refl)
 
 -- whether a kernel has the Rendez is told by its test
-module _ (proc : Running) (row : Row) (after : Process) where
+module _ (at : Direction) (before after : Process) where
   abbrev test : Bool
-  test = has_row proc.words row
+  test = has_row at.words at.row
 
-  known_by_test : (b : Bool) → test ≡ b → (b ≡ true → WakesAll row proc.process after)
-      → (b ≡ false → after ≡ proc.process) → WakesIfKnown row proc after
+  known_by_test : (b : Bool) → test ≡ b → (b ≡ true → WakesAll at.row before after)
+      → (b ≡ false → after ≡ before) → WakesBoth at before after
   known_by_test true is woke alone =
       record {
         known = λ owns. woke refl;
-        foreign = λ lacks. absurd (lacks (has_row_owns proc.words row is));
+        foreign = λ lacks. absurd (lacks (has_row_owns at.words at.row is));
       }
   known_by_test false is woke alone =
       record {
-        known = λ owns. absurd (lacks_row proc.words row is owns);
+        known = λ owns. absurd (lacks_row at.words at.row is owns);
         foreign = λ lacks. alone refl;
       }
 
 -- a write end's hangup, both ways
 pub write_hangups_are_plays : WriteHangupsArePlays
-write_hangups_are_plays key row writer old proc new after = (
-  λ is. play_of_hang (ServesWriter key) (writer + 1) (only_hung key (writer + 1)) row
-      (has_row proc.words row) (point old proc) (record { seat = new; process = after })
+write_hangups_are_plays at writer old new = (
+  λ is. play_of_hang (ServesWriter at.key) (writer + 1) (only_hung at.key (writer + 1)) at.row
+      (has_row at.words at.row) old new
       (record {
         hung = is.hung;
-        woke = λ test. is.woken.known (has_row_owns proc.words row test);
-        alone = λ test. is.woken.foreign (lacks_row proc.words row test);
+        woke = λ test. is.woken.known (has_row_owns at.words at.row test);
+        alone = λ test. is.woken.foreign (lacks_row at.words at.row test);
       }),
-  λ makes. let has = hung_by_play (ServesWriter key) (writer + 1) (only_hung key (writer + 1)) row
-      (has_row proc.words row) (point old proc) (record { seat = new; process = after }) makes in
+  λ makes. let has = hung_by_play (ServesWriter at.key) (writer + 1)
+      (only_hung at.key (writer + 1)) at.row (has_row at.words at.row) old new makes in
       record {
         hung = has.hung;
-        woken = known_by_test proc row after (has_row proc.words row) refl has.woke has.alone;
+        woken = known_by_test at old.process new.process (has_row at.words at.row) refl has.woke
+            has.alone;
       },
 )
 
 -- and a read end's
 pub read_hangups_are_plays : ReadHangupsArePlays
-read_hangups_are_plays key row old proc new after = (
-  λ is. play_of_hang (ServesReader key) 0 only row (has_row proc.words row) (point old proc)
-      (record { seat = new; process = after })
+read_hangups_are_plays at old new = (
+  λ is. play_of_hang (ServesReader at.key) 0 only at.row (has_row at.words at.row) old new
       (record {
         hung = record { hung = is.hung; rest = is.rest; buffer = is.buffer };
-        woke = λ test. is.woken.known (has_row_owns proc.words row test);
-        alone = λ test. is.woken.foreign (lacks_row proc.words row test);
+        woke = λ test. is.woken.known (has_row_owns at.words at.row test);
+        alone = λ test. is.woken.foreign (lacks_row at.words at.row test);
       }),
-  λ makes. let has = hung_by_play (ServesReader key) 0 only row (has_row proc.words row)
-      (point old proc) (record { seat = new; process = after }) makes in
+  λ makes. let has = hung_by_play (ServesReader at.key) 0 only at.row (has_row at.words at.row)
+      old new makes in
       record {
         hung = has.hung.hung;
         rest = has.hung.rest;
         buffer = has.hung.buffer;
-        woken = known_by_test proc row after (has_row proc.words row) refl has.woke has.alone;
+        woken = known_by_test at old.process new.process (has_row at.words at.row) refl has.woke
+            has.alone;
       },
 )
   where
     only : (reply : PipeReply) (one other : Lending)
-        → ServesReader key (Hang 0) reply one other → reply ≡ PipeReply.Hung
+        → ServesReader at.key (Hang 0) reply one other → reply ≡ PipeReply.Hung
     only reply one other serves =
-        only_hung key 0 reply one.taker.account other.taker.account serves.hung
+        only_hung at.key 0 reply one.taker.account other.taker.account serves.hung

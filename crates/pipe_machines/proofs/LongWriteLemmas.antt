@@ -1,6 +1,7 @@
 -- What the machine of a long write plays is as its contract says; and what the contract says is
 -- played, if the kernel has the Rendez of the direction.
-use Rattle.std.proofs.Common.{◌≡◌, ◌≢◌, ◌+◌, ◌<◌, ◌++◌, ◌∷◌, ℕ, zero, suc, nat_lt, Bool, true, false}
+use Rattle.std.proofs.Common.{◌≡◌, ◌≢◌, ◌+◌, ◌<◌, ◌++◌, ◌∷◌, ℕ, zero, suc, nat_lt, Bool, true}
+use Rattle.std.proofs.Common.{false}
 use Rattle.std.proofs.Common.{List, [], length, reverse, Option, Some, None, Result, Ok, Err}
 use Rattle.std.proofs.Common.{if◌then◌else◌, refl, sym, subst, ap, ◌∙◌, arith}
 use Rattle.std.proofs.lemmas.List.{append-nil}
@@ -281,7 +282,8 @@ module _ (long : WriteCall) (words : Words) (first : Writer) where
           → (does : Next PipeRequest ℕ) → (one block).does at ≡ does
           → ComesTo (goes_by long memory does block others taken count at) old
           → HasDone Serves does came old new
-          → ComesTo (in_write long memory block others taken count ((one block).goes_on at came)) new
+          → ComesTo (in_write long memory block others taken count ((one block).goes_on at came))
+          new
       one_step block others taken count at (Outcome.Replied r) old new (Next.Ask request) is comes
           done =
           more Serves (long_machine long memory) start first (Writing block others taken count at)
@@ -330,8 +332,8 @@ module _ (long : WriteCall) (words : Words) (first : Writer) where
           by true comes = comes
           by false comes = comes
       in_all block others taken count old comes (suc times) now plays =
-          subst (λ (s : TryState PutState). ComesTo (in_write long memory block others taken count s)
-          now.at) (sym plays.goes_on)
+          subst (λ (s : TryState PutState).
+          ComesTo (in_write long memory block others taken count s) now.at) (sym plays.goes_on)
           (one_step block others taken count plays.between.state plays.came plays.between.at now.at
           ((one block).does plays.between.state) refl
           (in_all block others taken count old comes times plays.between plays.before) plays.done)

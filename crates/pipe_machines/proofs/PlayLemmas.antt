@@ -13,13 +13,16 @@ module _ {State Seat Request Reply Out : Type 0} (Serves : Request → Reply →
 
   -- it has come to this state here
   pub record Comes (at : State) (now : Point Seat) : Type 0 where
+    -- after so many steps of its machine
     pub times : ℕ
+    -- it played these from its start
     pub plays : Plays Serves machine times from (record { state = at; at = now })
 
+  -- it has come to its start
   pub at_start : Comes start first
   at_start = record { times = zero; plays = refl }
 
-  -- one step more
+  -- it comes one step further
   pub more : (at : State) (came : Outcome Reply) (old new : Point Seat) → Comes at old
       → HasDone Serves (machine.does at) came old new → Comes (machine.goes_on at came) new
   more at came old new comes done =
@@ -49,8 +52,11 @@ module _ {State Seat Request Reply Out : Type 0} (Serves : Request → Reply →
   -- a call that is made ends in a state of which this is said
   pub record EndsSo (Says : State → Point Seat → Type 0) (answer : Result Out Fault)
       (after : Point Seat) : Type 0 where
+    -- the state that it ended in
     pub state : State
+    -- it is over in that state
     pub over : machine.does state ≡ Next.Over answer
+    -- and this is said of it there
     pub so : Says state after
 
   -- if it is said of the start, and after each step
@@ -66,6 +72,7 @@ module _ {State Seat Request Reply Out : Type 0} (Serves : Request → Reply →
         (step more.between.state more.came more.between.at now.at
         (says times more.between more.before) more.done)
 
+    -- a call that is made ends so
     pub ends_so : (answer : Result Out Fault) (after : Point Seat)
         → Makes Serves machine from answer after → EndsSo Says answer after
     ends_so answer after makes =

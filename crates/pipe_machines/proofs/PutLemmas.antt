@@ -168,7 +168,9 @@ module _ (call : WriteCall) (first : Writer) where
 
 -- an answer that comes after the first two refusals
 pub record IsBegun (answer : Result ℕ Fault) : Type 0 where
+  -- its bytes are not too many
   pub fits : ¬ (answer ≡ Err fault.TooBig)
+  -- its kernel lacks no Rendez
   pub owned : ¬ (answer ≡ Err fault.NoRendez)
 
 -- with memory, unless there was none
@@ -189,26 +191,28 @@ module _ (call : WriteCall) (words : Words) (old : Writer) (answer : Result ℕ 
   -- a write that puts its bytes
   waits : MakesFrom (Tries Putting) → Waited (writing call) rendez old answer new
   waits makes =
-      is_wait (ServesWriter call.key) (put_machine call) Putting rendez (AsksForRoom call) (λ seat. ⊤)
+      is_wait (ServesWriter call.key) (put_machine call) Putting rendez (AsksForRoom call)
+      (λ seat. ⊤)
       (λ from to number fits asks. tt) old tt
       (λ from told to fits makes. tells call from told to makes) answer new makes
 
   waits_so : Waited (writing call) rendez old answer new → MakesFrom (Tries Putting)
   waits_so waited =
-      is_play (ServesWriter call.key) (put_machine call) Putting rendez (AsksForRoom call) (λ seat. ⊤)
+      is_play (ServesWriter call.key) (put_machine call) Putting rendez (AsksForRoom call)
+      (λ seat. ⊤)
       (λ from to number fits asks. tt) old tt
       (λ from told to fits asks. plays call from told to asks) answer new waited
 
   -- a write that is refused at once
   failed : (why : Fault) → MakesFrom (Fails why) → (answer ≡ Err why) × (new ≡ old)
   failed why makes =
-      over_at_once (ServesWriter call.key) (write_machine call) (Fails why) old (Err why) refl answer
-      new makes
+      over_at_once (ServesWriter call.key) (write_machine call) (Fails why) old (Err why) refl
+      answer new makes
 
   fails : (why : Fault) → answer ≡ Err why → new ≡ old → MakesFrom (Fails why)
   fails why is same =
-      made_at_once (ServesWriter call.key) (write_machine call) (Fails why) old (Err why) refl answer
-      new is same
+      made_at_once (ServesWriter call.key) (write_machine call) (Fails why) old (Err why) refl
+      answer new is same
 
   -- ---- its machine's plays are as promised
 

@@ -1,5 +1,5 @@
--- What the machine of a read plays, with a wait or without, is what the contract says, and the other
--- way round.
+-- What the machine of a read plays, with a wait or without, is what the contract says, and the
+-- other way round.
 use Rattle.std.proofs.Common.{◌≡◌, ◌≢◌, ◌⊎◌, ℕ, Bool, true, false, nat_lt, List, [], ◌∷◌}
 use Rattle.std.proofs.Common.{None, Result, Ok, Err, inl, inr, if◌then◌else◌, length, drop}
 use Rattle.std.proofs.Common.{refl, sym, subst, ap, ◌∙◌, arith, length-append, length-drop}
@@ -33,7 +33,7 @@ use Rattle.call_machines.specs.Plays.{Makes}
 use Rattle.pipe_machines.specs.ReadMachine.{FillState, ReadsArePlays, ReadsSo, TriesArePlays}
 use Rattle.pipe_machines.specs.ReadMachine.{TriesSo, fill_machine, read_machine}
 use Rattle.pipe_machines.specs.ReadMachine.{refused_first, tried_at, tried_of, try_machine}
-use Rattle.pipe_machines.specs.Requests.{PipeReply, PipeRequest, ServesReader, has_row}
+use Rattle.pipe_machines.specs.Requests.{Direction, PipeReply, PipeRequest, ServesReader, has_row}
 use Rattle.pipe_machines.specs.Tries.{TryState}
 use Rattle.pipe_machines.proofs.FillLemmas.{HasTried, plays, tried}
 use Rattle.pipe_machines.proofs.PlayLemmas.{made_at_once, over_at_once}
@@ -126,22 +126,26 @@ is_some buffer byte bytes is none = let both : byte ∷ bytes ≡ [] = sym is �
 
 module _ (key : Key) (row : Row) (words : Words) (old : Calling)
     (answer : Result TryAnswer Fault) (new : Calling) where
+  abbrev here : Direction
+  here = record { key = key; row = row; words = words }
+
   abbrev TriesFrom : FillState TryAnswer → Type 0
   TriesFrom start =
-      Makes (ServesReader key) (try_machine row old.seat.buffer) (record { state = start; at = old })
-      answer new
+      Makes (ServesReader key) (try_machine row old.seat.buffer)
+      (record { state = start; at = old }) answer new
 
   abbrev refuses : Fault → FillState TryAnswer
   refuses why = FillState.Told (Err why)
 
   -- refused for this
   try_refused : (why : Fault) → answer ≡ Err why → new ≡ old
-      → (why ≡ fault.BadCount → old.seat.buffer ≡ []) × (old.seat.buffer ≡ [] → why ≡ fault.BadCount)
+      → (why ≡ fault.BadCount → old.seat.buffer ≡ [])
+      × (old.seat.buffer ≡ [] → why ≡ fault.BadCount)
       → (old.seat.buffer ≢ [] → (why ≡ fault.NoRendez) × (¬ OwnsRow words row))
       → (why ≡ fault.BadCount) ⊎ (why ≡ fault.NoRendez)
-      → TriesSo key row words old answer new
+      → TriesSo here old answer new
   try_refused why is same bad foreign one =
-      subst (λ (a : Result TryAnswer Fault). TriesSo key row words old a new) (sym is) (record {
+      subst (λ (a : Result TryAnswer Fault). TriesSo here old a new) (sym is) (record {
         bad_count = (
           λ given. bad.0 (reason given),
           λ none. ap (λ (w : Fault). Err w) (bad.1 none),
@@ -161,9 +165,9 @@ module _ (key : Key) (row : Row) (words : Words) (old : Calling)
 
   -- it tried
   try_got : (got : TryAnswer) → answer ≡ Ok got → Tries key row old got new
-      → old.seat.buffer ≢ [] → OwnsRow words row → TriesSo key row words old answer new
+      → old.seat.buffer ≢ [] → OwnsRow words row → TriesSo here old answer new
   try_got got is tries some owns =
-      subst (λ (a : Result TryAnswer Fault). TriesSo key row words old a new) (sym is) (record {
+      subst (λ (a : Result TryAnswer Fault). TriesSo here old a new) (sym is) (record {
         bad_count = (λ given. absurd cc, λ none. absurd (some none));
         no_rendez = λ there. (λ given. absurd cc, λ lacks. absurd (lacks owns));
         faults = tt;
@@ -172,8 +176,8 @@ module _ (key : Key) (row : Row) (words : Words) (old : Calling)
       })
 
   tries_so : (buffer : List ℕ) → old.seat.buffer ≡ buffer
-      → TriesFrom (refused_first refuses (FillState.Filling 0 None) words row buffer)
-      → TriesSo key row words old answer new
+      → TriesFrom (refused_first refuses (FillState.Filling 0 None) (has_row words row) buffer)
+      → TriesSo here old answer new
   tries_so [] none makes =
       let is = over_at_once (ServesReader key) (try_machine row old.seat.buffer)
       (refuses fault.BadCount) old (Err fault.BadCount) refl answer new makes in
@@ -186,7 +190,7 @@ module _ (key : Key) (row : Row) (words : Words) (old : Calling)
 
       by : (has : Bool) → has_row words row ≡ has
           → TriesFrom (if has then FillState.Filling 0 None else refuses fault.NoRendez)
-          → TriesSo key row words old answer new
+          → TriesSo here old answer new
       by true has makes =
           let so : HasTried key row old tried_of answer new =
           tried key row old tried_of some answer new makes in
@@ -201,12 +205,12 @@ module _ (key : Key) (row : Row) (words : Words) (old : Calling)
           (λ there. (refl, lacks_row words row has)) (inr refl)
 
   -- it did nothing
-  try_idle : (why : Fault) → answer ≡ Err why → TriesSo key row words old answer new → new ≡ old
+  try_idle : (why : Fault) → answer ≡ Err why → TriesSo here old answer new → new ≡ old
   try_idle why is so =
-      (subst (λ (a : Result TryAnswer Fault). TriesSo key row words old a new) is so).refused
+      (subst (λ (a : Result TryAnswer Fault). TriesSo here old a new) is so).refused
 
-  try_played : TriesSo key row words old answer new → (buffer : List ℕ) → old.seat.buffer ≡ buffer
-      → TriesFrom (refused_first refuses (FillState.Filling 0 None) words row buffer)
+  try_played : TriesSo here old answer new → (buffer : List ℕ) → old.seat.buffer ≡ buffer
+      → TriesFrom (refused_first refuses (FillState.Filling 0 None) (has_row words row) buffer)
   try_played so [] none =
       let is = so.bad_count.1 none in
       made_at_once (ServesReader key) (try_machine row old.seat.buffer) (refuses fault.BadCount) old
@@ -219,7 +223,7 @@ module _ (key : Key) (row : Row) (words : Words) (old : Calling)
       found : OwnsRow words row → (a : Result TryAnswer Fault) → answer ≡ a
           → TriesFrom (FillState.Filling 0 None)
       found owns (Ok got) is =
-          let tries = (subst (λ (a : Result TryAnswer Fault). TriesSo key row words old a new) is
+          let tries = (subst (λ (a : Result TryAnswer Fault). TriesSo here old a new) is
           so).tried in
           let came = came_tried key row old new got tries in
           subst (λ (a : Result TryAnswer Fault). Makes (ServesReader key)
@@ -228,7 +232,7 @@ module _ (key : Key) (row : Row) (words : Words) (old : Calling)
           (ap (λ (g : TryAnswer). Ok g) came.is ∙ sym is)
           (plays key row old tried_of some came.came new came.tried)
       found owns (Err why) is =
-          absurd (never (subst (λ (a : Result TryAnswer Fault). TriesSo key row words old a new) is
+          absurd (never (subst (λ (a : Result TryAnswer Fault). TriesSo here old a new) is
           so).faults)
         where
           never : (why ≡ fault.BadCount) ⊎ (why ≡ fault.NoRendez) → ⊥
@@ -246,15 +250,18 @@ module _ (key : Key) (row : Row) (words : Words) (old : Calling)
 
 -- a read that does not wait by its machine, both ways
 pub tries_are_plays : TriesArePlays
-tries_are_plays key row words old answer new = (
-  λ so. try_played key row words old answer new so old.seat.buffer refl,
-  λ makes. tries_so key row words old answer new old.seat.buffer refl makes,
+tries_are_plays at old answer new = (
+  λ so. try_played at.key at.row at.words old answer new so old.seat.buffer refl,
+  λ makes. tries_so at.key at.row at.words old answer new old.seat.buffer refl makes,
 )
 
 -- ---- a read that waits
 
 module _ (key : Key) (row : Row) (words : Words) (first : Calling)
     (answer : Result ReadAnswer Fault) (last : Calling) where
+  abbrev there : Direction
+  there = record { key = key; row = row; words = words }
+
   abbrev size : ℕ
   size = length first.seat.buffer
 
@@ -333,9 +340,9 @@ module _ (key : Key) (row : Row) (words : Words) (first : Calling)
       × (first.seat.buffer ≡ [] → why ≡ fault.BadCount)
       → (first.seat.buffer ≢ [] → (why ≡ fault.NoRendez) × (¬ OwnsRow words row))
       → Reads key row first (Err why) last
-      → ReadsSo key row words first answer last
+      → ReadsSo there first answer last
   read_refused why is bad foreign did =
-      subst (λ (a : Result ReadAnswer Fault). ReadsSo key row words first a last) (sym is) (record {
+      subst (λ (a : Result ReadAnswer Fault). ReadsSo there first a last) (sym is) (record {
         bad_count = (
           λ given. bad.0 (reason given),
           λ none. ap (λ (w : Fault). Err w) (bad.1 none),
@@ -352,7 +359,7 @@ module _ (key : Key) (row : Row) (words : Words) (first : Calling)
       reason given = cc
 
   read_waited : Waits → first.seat.buffer ≢ [] → OwnsRow words row
-      → ReadsSo key row words first answer last
+      → ReadsSo there first answer last
   read_waited waited some owns =
       let asked = is_asked_read (AsksForBytes key row) (reader_rendez row)
       (λ old new why asks. asks) first answer last waited in
@@ -369,8 +376,8 @@ module _ (key : Key) (row : Row) (words : Words) (first : Calling)
   fails why = TryState.Fails why
 
   reads_by : (buffer : List ℕ) → first.seat.buffer ≡ buffer
-      → ReadsFrom (refused_first fails (TryState.Tries start) words row buffer)
-      → ReadsSo key row words first answer last
+      → ReadsFrom (refused_first fails (TryState.Tries start) (has_row words row) buffer)
+      → ReadsSo there first answer last
   reads_by [] none makes =
       let is = over_at_once (ServesReader key) (read_machine row first.seat.buffer)
       (fails fault.BadCount) first (Err fault.BadCount) refl answer last makes in
@@ -383,7 +390,7 @@ module _ (key : Key) (row : Row) (words : Words) (first : Calling)
 
       by : (has : Bool) → has_row words row ≡ has
           → ReadsFrom (if has then TryState.Tries start else fails fault.NoRendez)
-          → ReadsSo key row words first answer last
+          → ReadsSo there first answer last
       by true has makes = read_waited (waits some makes) some (has_row_owns words row has)
       by false has makes =
           let is = over_at_once (ServesReader key) (read_machine row first.seat.buffer)
@@ -392,7 +399,7 @@ module _ (key : Key) (row : Row) (words : Words) (first : Calling)
           (λ there. (refl, lacks_row words row has)) is.1
 
   -- and what is promised is played
-  read_idle : (why : Fault) → answer ≡ Err why → ReadsSo key row words first answer last
+  read_idle : (why : Fault) → answer ≡ Err why → ReadsSo there first answer last
       → (Reads key row first (Err why) last → last ≡ first) → last ≡ first
   read_idle why is so idle =
       idle (subst (λ (a : Result ReadAnswer Fault). Reads key row first a last) is so.read)
@@ -408,9 +415,9 @@ module _ (key : Key) (row : Row) (words : Words) (first : Calling)
       subst (λ (a : Result ReadAnswer Fault).
       Waited (reading key row) (reader_rendez row) first a last) (sym is) did
 
-  read_played : ReadsSo key row words first answer last → (buffer : List ℕ)
+  read_played : ReadsSo there first answer last → (buffer : List ℕ)
       → first.seat.buffer ≡ buffer
-      → ReadsFrom (refused_first fails (TryState.Tries start) words row buffer)
+      → ReadsFrom (refused_first fails (TryState.Tries start) (has_row words row) buffer)
   read_played so [] none =
       let is = so.bad_count.1 none in
       made_at_once (ServesReader key) (read_machine row first.seat.buffer) (fails fault.BadCount)
@@ -435,7 +442,7 @@ module _ (key : Key) (row : Row) (words : Words) (first : Calling)
 
 -- a read that waits by its machine, both ways
 pub reads_are_plays : ReadsArePlays
-reads_are_plays key row words old answer new = (
-  λ so. read_played key row words old answer new so old.seat.buffer refl,
-  λ makes. reads_by key row words old answer new old.seat.buffer refl makes,
+reads_are_plays at old answer new = (
+  λ so. read_played at.key at.row at.words old answer new so old.seat.buffer refl,
+  λ makes. reads_by at.key at.row at.words old answer new old.seat.buffer refl makes,
 )

@@ -1,5 +1,5 @@
--- A call that tries, sleeps and tries again plays a wait whose requests are its tries, and each such
--- wait is played.
+-- A call that tries, sleeps and tries again plays a wait whose requests are its tries, and each
+-- such wait is played.
 use Rattle.std.proofs.Common.{◌≡◌, ◌⊎◌, ℕ, zero, suc, Some, None, Result, Ok, Err, inl, inr}
 use Rattle.std.proofs.Common.{refl, sym, subst, ap}
 use Rattle.rendez_words.specs.Process.{Process}
@@ -234,6 +234,7 @@ module _ {State Request Reply Out Seat : Type 0}
     step (Tries at) came old new says done = step_in at came old new says (one.does at) refl done
     step (Fails why) came old new says done = absurd done
 
+    -- what its machine plays is a wait
     pub is_wait : (answer : Result Out Fault) (after : Point Seat)
         → Makes Serves machine (record { state = Tries start; at = first }) answer after
         → Waited promise rendez first answer after
@@ -409,6 +410,7 @@ module _ {State Request Reply Out Seat : Type 0}
     stays last (Stopped why (Some out)) seat process after so back = absurd so.left
     stays last (Stopped why None) seat process after so same = same
 
+    -- such a wait is played by its machine
     pub is_play : (answer : Result Out Fault) (after : Point Seat)
         → Waited promise rendez first answer after → MakesIt answer after
     is_play answer after (inl begun) =

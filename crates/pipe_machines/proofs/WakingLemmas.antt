@@ -1,5 +1,6 @@
 -- How a call wakes each writer, one after the other, and whether its kernel has their Rendez.
-use Rattle.std.proofs.Common.{◌≡◌, ◌+◌, ◌<◌, ◌≤◌, ℕ, zero, suc, nat_lt, Bool, true, false, Result, Ok}
+use Rattle.std.proofs.Common.{◌≡◌, ◌+◌, ◌<◌, ◌≤◌, ℕ, zero, suc, nat_lt, Bool, true, false, Result}
+use Rattle.std.proofs.Common.{Ok}
 use Rattle.std.proofs.Common.{if◌then◌else◌, refl, sym, subst, ◌∙◌, arith}
 use Rattle.std.specs.Prelude.{nat_le}
 use Rattle.std.proofs.lemmas.Bool.Decides.{nat_tests}
@@ -17,35 +18,35 @@ use Rattle.pipe_machines.proofs.PlayLemmas.{Comes, more, whole}
 
 -- ---- tests of numbers
 
-pub is_below : (a b : ℕ) → nat_lt a b ≡ true → a < b
+is_below : (a b : ℕ) → nat_lt a b ≡ true → a < b
 is_below a b test = grind (arith, nat_tests)
 
-pub is_not_below : (a b : ℕ) → nat_lt a b ≡ false → b ≤ a
+is_not_below : (a b : ℕ) → nat_lt a b ≡ false → b ≤ a
 is_not_below a b test = grind (arith, nat_tests)
 
+-- a number that is below another passes the test
 pub below_is : (a b : ℕ) → a < b → nat_lt a b ≡ true
 below_is a b low = grind (arith, nat_tests)
 
+-- a number that is not below another fails the test
 pub not_below_is : (a b : ℕ) → b ≤ a → nat_lt a b ≡ false
 not_below_is a b high = grind (arith, nat_tests)
 
+-- a test that is passed, of two numbers
 pub is_at_most : (a b : ℕ) → nat_le a b ≡ true → a ≤ b
 is_at_most a b test = grind (arith, nat_tests)
 
+-- a test that is failed, of two numbers
 pub is_above : (a b : ℕ) → nat_le a b ≡ false → b < a
 is_above a b test = grind (arith, nat_tests)
 
-pub at_most_is : (a b : ℕ) → a ≤ b → nat_le a b ≡ true
-at_most_is a b low = grind (arith, nat_tests)
-
-pub above_is : (a b : ℕ) → b < a → nat_le a b ≡ false
-above_is a b high = grind (arith, nat_tests)
-
 -- ---- the kernel
 
+-- a kernel that passes the test has the Rendez
 pub has_row_owns : (words : Words) (row : Row) → has_row words row ≡ true → OwnsRow words row
 has_row_owns words row test = is_at_most _ _ test
 
+-- a kernel that fails the test lacks one
 pub lacks_row : (words : Words) (row : Row) → has_row words row ≡ false → ¬ OwnsRow words row
 lacks_row words row test owns =
     let above = is_above (row.first + 1 + row.writers) (rendez_of words) test in
@@ -57,9 +58,13 @@ module _ {Seat Out : Type 0} (Serves : PipeRequest → PipeReply → Seat → Se
     (row : Row) (number : ℕ) (out : Out) where
   -- so far: it stood so before the first of them, and so many writers are woken
   pub record HasWoken (Before : Point Seat → Type 0) (woken : ℕ) (now : Point Seat) : Type 0 where
+    -- its process before the first wakeup
     pub process : Process
+    -- where the call stood before that
     pub before : Before (record { seat = now.seat; process = process })
+    -- the wakeups that it has made since
     pub writers : WakesWriters row woken number process now.process
+    -- it woke no more than there are
     pub low : woken ≤ row.writers
 
   -- it is about to wake the first one
@@ -90,7 +95,7 @@ module _ {Seat Out : Type 0} (Serves : PipeRequest → PipeReply → Seat → Se
           }
       by false test done = absurd done
 
-  -- nothing else comes of it
+  -- no reply comes of a wakeup
   pub not_replied : (woken : ℕ) (reply : PipeReply) (old new : Point Seat)
       → HasDone Serves (wakes_next row woken number out) (Outcome.Replied reply) old new → ⊥
   not_replied woken reply old new done = by (nat_lt woken row.writers) done
@@ -101,6 +106,7 @@ module _ {Seat Out : Type 0} (Serves : PipeRequest → PipeReply → Seat → Se
       by true done = done
       by false done = done
 
+  -- no sleep comes of a wakeup
   pub not_slept : (woken : ℕ) (ended : Result Unit Fault) (old new : Point Seat)
       → HasDone Serves (wakes_next row woken number out) (Outcome.Slept ended) old new → ⊥
   not_slept woken ended old new done = by (nat_lt woken row.writers) done
@@ -114,11 +120,16 @@ module _ {Seat Out : Type 0} (Serves : PipeRequest → PipeReply → Seat → Se
   -- it is over: all are woken
   pub record AllWoken (Before : Point Seat → Type 0) (answer : Result Out Fault)
       (now : Point Seat) : Type 0 where
+    -- its process before the first of the wakeups
     pub process : Process
+    -- where the call stood before them
     pub before : Before (record { seat = now.seat; process = process })
+    -- it woke each of the writers
     pub writers : WakesWriters row row.writers number process now.process
+    -- and this is the answer that it told
     pub answer_is : ◌≡◌ {A = Result Out Fault} (Ok out) answer
 
+  -- a call that is over has woken them all
   pub all_are_woken : (Before : Point Seat → Type 0) (woken : ℕ) (answer : Result Out Fault)
       (now : Point Seat) → HasWoken Before woken now
       → wakes_next row woken number out ≡ Next.Over answer → AllWoken Before answer now
@@ -165,7 +176,9 @@ module _ {Seat Out : Type 0} (Serves : PipeRequest → PipeReply → Seat → Se
 
     is_over : ◌≡◌ {A = Next PipeRequest Out} (wakes_next row row.writers number out)
         (Next.Over (Ok out))
-    is_over = by (nat_lt row.writers row.writers) (not_below_is row.writers row.writers (omega arith))
+    is_over =
+        by (nat_lt row.writers row.writers)
+        (not_below_is row.writers row.writers (omega arith))
       where
         by : (b : Bool) → b ≡ false
             → ◌≡◌ {A = Next PipeRequest Out}

@@ -27,9 +27,11 @@ use Rattle.pipe_machines.specs.Requests.PipeRequest.{Hang, NextBlock, NextPart, 
 use Rattle.pipe_machines.specs.Tries.{TryState}
 use Rattle.pipe_machines.specs.WriteMachine.{PutState, write_machine}
 
--- the queue, and what is left of the write that the reader has begun
-pub record Direction : Type 0 where
+-- a direction, as the worked runs keep it
+pub record DirectionState : Type 0 where
+  -- the queue as a history of its entries leaves it
   pub queue : QueueState
+  -- the rest of a begun write
   pub rest : Option Part
 
 -- the put of this write has not returned
@@ -38,11 +40,13 @@ is_put None number = false
 is_put (Some other) number = other == number
 
 module _ (key : Key) where
-  abbrev pub opened : Direction
+  -- a new direction, on which nothing was called
+  abbrev pub opened : DirectionState
   opened = record { queue = opening_state key.limit; rest = None }
 
   -- ---- what it replies
 
+  -- the reply to a put, by the first rule that holds
   abbrev pub put_told : QueueState → PipeReply
   put_told s =
       if s.pipe.hung then Hungup
@@ -54,6 +58,7 @@ module _ (key : Key) where
   abbrev next_is : QueueState → ℕ
   next_is s = begun_number key.first s.pipe + 1
 
+  -- the reply to a read of the next write
   abbrev pub write_told : QueueState → ℕ → Option Write → PipeReply
   write_told s room None =
       if s.pipe.hung then End else NotYet (begun_number key.first s.pipe)
@@ -67,7 +72,8 @@ module _ (key : Key) where
   part_told s room None = write_told s room (next_write s.pipe)
   part_told s room (Some left) = Got (length (take room left.bytes)) None
 
-  abbrev pub direction_told : Direction → PipeRequest → PipeReply
+  -- the reply to each of the requests
+  abbrev pub direction_told : DirectionState → PipeRequest → PipeReply
   direction_told d (Put writer bytes) = put_told d.queue
   direction_told d (Stand writer number) = Stood
   direction_told d (NextPart at room) = part_told d.queue room d.rest
@@ -76,11 +82,13 @@ module _ (key : Key) where
 
   -- ---- and what it is then
 
+  -- a put that was accepted adds its write
   abbrev pub put_after : QueueState → ℕ → List ℕ → PipeReply → QueueState
   put_after s writer bytes (Taken number) = after_entry s (entry.Taken writer bytes number)
   put_after s writer bytes other = s
 
-  abbrev pub write_after : Direction → ℕ → Option Write → Direction
+  -- the next write is taken out, if it stands
+  abbrev pub write_after : DirectionState → ℕ → Option Write → DirectionState
   write_after d room None = d
   write_after d room (Some write) =
       if is_put (d.queue.putting (write.writer + 1)) (next_is d.queue) then d
@@ -89,11 +97,13 @@ module _ (key : Key) where
         rest = rest_of room (whole_at d.queue.pipe.read_whole write);
       }
 
-  abbrev pub part_after : Direction → ℕ → Option Part → Direction
+  -- after a read of one part
+  abbrev pub part_after : DirectionState → ℕ → Option Part → DirectionState
   part_after d room None = write_after d room (next_write d.queue.pipe)
   part_after d room (Some left) = record d { rest = rest_of room left }
 
-  abbrev pub direction_after : Direction → PipeRequest → Direction
+  -- after each of the requests
+  abbrev pub direction_after : DirectionState → PipeRequest → DirectionState
   direction_after d (Put writer bytes) =
       record d { queue = put_after d.queue writer bytes (put_told d.queue) }
   direction_after d (Stand writer number) =
@@ -104,6 +114,7 @@ module _ (key : Key) where
 
 -- ---- processes that each make one call
 
+-- where a process is in its one call
 pub data CallState : Type 0 where
   -- this writer writes these bytes
   Writes : ℕ → List ℕ → TryState PutState → CallState
@@ -114,6 +125,7 @@ pub data CallState : Type 0 where
   -- a hangup by this seat
   Hangs : ℕ → HangState → CallState
 
+-- what the calls of all kinds answer
 pub data CallOut : Type 0 where
   Wrote : ℕ → CallOut
   HasRead : ReadAnswer → CallOut
@@ -135,6 +147,7 @@ module _ (key : Key) (row : Row) where
   abbrev call_of : ℕ → List ℕ → WriteCall
   call_of writer bytes = record { key = key; row = row; writer = writer; bytes = bytes }
 
+  -- what a call of each kind does next
   abbrev pub call_does : CallState → Next PipeRequest CallOut
   call_does (Writes writer bytes at) =
       next_with Wrote ((write_machine (call_of writer bytes)).does at)
@@ -142,6 +155,7 @@ module _ (key : Key) (row : Row) where
   call_does (Blocks at) = next_with HasRead ((block_machine row).does at)
   call_does (Hangs seat at) = next_with (λ unit. HungUp) ((hang_machine row true seat).does at)
 
+  -- where a call of each kind goes on
   abbrev pub call_goes_on : CallState → Outcome PipeReply → CallState
   call_goes_on (Writes writer bytes at) came =
       Writes writer bytes ((write_machine (call_of writer bytes)).goes_on at came)
@@ -149,12 +163,13 @@ module _ (key : Key) (row : Row) where
   call_goes_on (Blocks at) came = Blocks ((block_machine row).goes_on at came)
   call_goes_on (Hangs seat at) came = Hangs seat ((hang_machine row true seat).goes_on at came)
 
+  -- the machine of all these calls
   abbrev pub call_machine : Machine CallState PipeRequest PipeReply CallOut
   call_machine = record { does = call_does; goes_on = call_goes_on }
 
   -- the system of these calls, in a world with so many Rendez
   abbrev pub pipe_system : ℕ → List CallState → CallState
-      → System CallState PipeRequest PipeReply CallOut Direction
+      → System CallState PipeRequest PipeReply CallOut DirectionState
   pipe_system rendez starts none =
       record {
         machine = call_machine;

@@ -1,6 +1,7 @@
--- The rows of the machine of a long write; and what its contract allows, and no machine plays, where
--- a kernel lacks Rendez of the direction.
-use Rattle.std.proofs.Common.{◌≡◌, ◌+◌, ◌∷◌, ℕ, zero, suc, Bool, true, false, List, [], length, Some}
+-- The rows of the machine of a long write; and what its contract allows, and no machine plays,
+-- where a kernel lacks Rendez of the direction.
+use Rattle.std.proofs.Common.{◌≡◌, ◌+◌, ◌∷◌, ℕ, zero, suc, Bool, true, false, List, [], length}
+use Rattle.std.proofs.Common.{Some}
 use Rattle.std.proofs.Common.{None, Ok, if◌then◌else◌, refl, ap}
 use Rattle.sync_base.specs.declared.fault.Fault.TheVariants as fault
 use Rattle.sync_base.specs.declared.mode.Mode.TheVariants.{Message}

@@ -12,7 +12,6 @@ use Rattle.sync_base.specs.NoteSet.{only}
 use Rattle.rendez_words.specs.declared.words.Words.{Words}
 use Rattle.rendez_words.specs.Process.{Process}
 use Rattle.rendez_words.specs.Words.{rendez_of}
-use Rattle.sleep_wakeup.specs.Kernel.{Running}
 use Rattle.block_queue.specs.declared.entry.Entry.{Entry}
 use Rattle.block_queue.specs.declared.entry.Entry.TheVariants as entry
 use Rattle.block_queue.specs.declared.view.Key.{Key}
@@ -23,23 +22,26 @@ use Rattle.pipe_dev.specs.declared.answers.ReadAnswer.TheVariants as read
 use Rattle.pipe_dev.specs.declared.answers.TryAnswer.TheVariants as try
 use Rattle.pipe_dev.specs.declared.filling.ReadOutcome.{ReadOutcome}
 use Rattle.pipe_dev.specs.declared.filling.Stop.TheVariants as stop
-use Rattle.pipe_dev.specs.declared.row.Row.{Row}
 use Rattle.pipe_dev.specs.BlockReads.{ReadsBlock}
 use Rattle.pipe_dev.specs.Filling.{FindsNothing, FindsNotThere, IsLeft, IsTakenOut, Lending}
 use Rattle.pipe_dev.specs.Filling.{TakesPart, number_of}
 use Rattle.pipe_dev.specs.Parts.{Part}
 use Rattle.pipe_dev.specs.ReadCalls.{Calling, Reads, Tries, came_to}
-use Rattle.pipe_dev.specs.Rendezes.{OwnsRow, WakesIfKnown, reader_rendez, writer_rendez}
+use Rattle.pipe_dev.specs.Rendezes.{OwnsRow, reader_rendez, writer_rendez}
 use Rattle.pipe_dev.specs.WriteCalls.{WriteCall, Writer, Writes}
 use Rattle.waiting.specs.declared.call.Reply.{Reply as WaitReply}
 use Rattle.waiting.specs.declared.call.Reply.TheVariants as reply
 use Rattle.call_machines.specs.Machine.{Next, Outcome}
 use Rattle.pipe_machines.specs.BlockMachine.{BlockState, ReadsBlockSo, block_does, block_goes_on}
 use Rattle.pipe_machines.specs.BlockMachine.{block_machine, block_start}
+use Rattle.pipe_machines.specs.HangMachine.{WakesBoth, hangs_up}
+use Rattle.pipe_dev.specs.Rendezes.{WakesAll}
+use Rattle.pipe_machines.specs.Requests.{Direction}
 use Rattle.pipe_machines.specs.HangMachine.{HangState, HangsUpReading, HangsUpWriting, hang_does}
 use Rattle.pipe_machines.specs.HangMachine.{hang_goes_on}
 use Rattle.pipe_machines.specs.ReadMachine.{FillState, ReadsSo, TriesSo, fill_does, fill_goes_on}
-use Rattle.pipe_machines.specs.ReadMachine.{read_machine, read_start, tried_of, try_machine, try_start}
+use Rattle.pipe_machines.specs.ReadMachine.{read_machine, read_start, tried_of, try_machine}
+use Rattle.pipe_machines.specs.ReadMachine.{try_start}
 use Rattle.pipe_machines.specs.Requests.{PipeReply, PipeRequest, ReadsPart, ReadsRest, ServesBlock}
 use Rattle.pipe_machines.specs.Requests.{ServesPart, ServesPut, ServesReadHang, ServesReader}
 use Rattle.pipe_machines.specs.Requests.{ServesWriter, overwritten}
@@ -60,7 +62,8 @@ puts = refl
 stands : put_does call (PutState.Standing 7) ≡ Next.Ask (Stand 1 7)
 stands = refl
 
-wakes_the_reader : put_does call (PutState.WakingReader 7) ≡ Next.Wake (reader_rendez (row Message)) 7
+wakes_the_reader : put_does call (PutState.WakingReader 7)
+    ≡ Next.Wake (reader_rendez (row Message)) 7
 wakes_the_reader = refl
 
 posts_the_note : put_does call PutState.Noting ≡ Next.Return (only ClosedPipe)
@@ -273,8 +276,8 @@ asks_for_it_again = refl
 
 -- ---- a hangup
 
-hangs_up : hang_does (row Message) true 2 HangState.Hanging ≡ Next.Ask (Hang 2)
-hangs_up = refl
+asks_to_hang : hang_does (row Message) true 2 HangState.Hanging ≡ Next.Ask (Hang 2)
+asks_to_hang = refl
 
 wakes_the_reader_first : hang_goes_on (row Message) true 2 HangState.Hanging
     (Outcome.Replied PipeReply.Hung)
@@ -308,6 +311,13 @@ wakes_nobody_there = refl
 
 is_over_alone : hang_does (row Message) false 2 HangState.HungAlone ≡ Next.Over (Ok tt)
 is_over_alone = refl
+
+-- by whether the kernel has the Rendez of the direction
+hangs_up_there : (words : Words) → rendez_of words ≡ 3
+    → (hangs_up (record { key = key 1; row = row Message; words = words }) 2).goes_on
+    HangState.Hanging (Outcome.Replied PipeReply.Hung)
+    ≡ HangState.WakingReader
+hangs_up_there words has = rw has refl
 
 -- ---- what comes first
 
@@ -465,85 +475,94 @@ goes_behind = refl
 
 -- ---- what a contract forbids
 
-module _ (k : Key) (r : Row) (words : Words) where
+module _ (at : Direction) where
   -- of a write
   module _ (w : WriteCall) (old new : Writer) where
-    refuses_what_fits : length w.bytes ≡ 1 → WritesSo w words old (Err fault.TooBig) new → ⊥
+    refuses_what_fits : length w.bytes ≡ 1 → WritesSo w at.words old (Err fault.TooBig) new → ⊥
     refuses_what_fits small so = let large = so.too_big.0 refl in omega (arith, small, large)
 
-    writes_in_a_kernel_that_lacks_one : length w.bytes ≡ 1 → ¬ OwnsRow words w.row
-        → WritesSo w words old (Ok 7) new → ⊥
+    writes_in_a_kernel_that_lacks_one : length w.bytes ≡ 1 → ¬ OwnsRow at.words w.row
+        → WritesSo w at.words old (Ok 7) new → ⊥
     writes_in_a_kernel_that_lacks_one small lacks so =
         let no = (so.no_rendez (omega (arith, small))).1 lacks in cc
 
-    writes_in_no_way : ¬ Writes w old (Ok 7) new → WritesSo w words old (Ok 7) new → ⊥
+    writes_in_no_way : ¬ Writes w old (Ok 7) new → WritesSo w at.words old (Ok 7) new → ⊥
     writes_in_no_way none so = none so.wrote
 
   -- of a read
   module _ (old new : Calling) where
     refuses_a_buffer_with_room : old.seat.buffer ≢ []
-        → ReadsSo k r words old (Err fault.BadCount) new → ⊥
+        → ReadsSo at old (Err fault.BadCount) new → ⊥
     refuses_a_buffer_with_room some so = some (so.bad_count.0 refl)
 
-    refuses_a_kernel_that_has_them : old.seat.buffer ≢ [] → OwnsRow words r
-        → ReadsSo k r words old (Err fault.NoRendez) new → ⊥
+    refuses_a_kernel_that_has_them : old.seat.buffer ≢ [] → OwnsRow at.words at.row
+        → ReadsSo at old (Err fault.NoRendez) new → ⊥
     refuses_a_kernel_that_has_them some owns so = (so.no_rendez some).0 refl owns
 
-    reads_in_no_way : ¬ Reads k r old (Ok read.End) new → ReadsSo k r words old (Ok read.End) new
+    reads_in_no_way : ¬ Reads at.key at.row old (Ok read.End) new → ReadsSo at old (Ok read.End) new
         → ⊥
     reads_in_no_way none so = none so.read
 
-    refuses_a_block_there : OwnsRow words r → ReadsBlockSo k r words old (Err fault.NoRendez) new
+    refuses_a_block_there : OwnsRow at.words at.row → ReadsBlockSo at old (Err fault.NoRendez) new
         → ⊥
     refuses_a_block_there owns so = so.no_rendez.0 refl owns
 
-    gets_a_block_in_no_way : ¬ ReadsBlock k r old (Ok read.End) new
-        → ReadsBlockSo k r words old (Ok read.End) new → ⊥
+    gets_a_block_in_no_way : ¬ ReadsBlock at.key at.row old (Ok read.End) new
+        → ReadsBlockSo at old (Ok read.End) new → ⊥
     gets_a_block_in_no_way none so = none so.read
 
-    tries_no_bytes : old.seat.buffer ≡ [] → TriesSo k r words old (Ok try.End) new → ⊥
+    tries_no_bytes : old.seat.buffer ≡ [] → TriesSo at old (Ok try.End) new → ⊥
     tries_no_bytes none so = let no = so.bad_count.1 none in cc
 
-    tries_in_a_kernel_that_lacks_one : old.seat.buffer ≢ [] → ¬ OwnsRow words r
-        → TriesSo k r words old (Ok try.End) new → ⊥
+    tries_in_a_kernel_that_lacks_one : old.seat.buffer ≢ [] → ¬ OwnsRow at.words at.row
+        → TriesSo at old (Ok try.End) new → ⊥
     tries_in_a_kernel_that_lacks_one some lacks so = let no = (so.no_rendez some).1 lacks in cc
 
-    tries_and_is_refused_for_another_reason : TriesSo k r words old (Err fault.Worn) new → ⊥
+    tries_and_is_refused_for_another_reason : TriesSo at old (Err fault.Worn) new → ⊥
     tries_and_is_refused_for_another_reason so = by so.faults
       where
         by : (fault.Worn ≡ fault.BadCount) ⊎ (fault.Worn ≡ fault.NoRendez) → ⊥
         by (inl same) = cc
         by (inr same) = cc
 
-    is_refused_and_does_it : new ≢ old → TriesSo k r words old (Err fault.NoRendez) new → ⊥
+    is_refused_and_does_it : new ≢ old → TriesSo at old (Err fault.NoRendez) new → ⊥
     is_refused_and_does_it other so = other so.refused
 
-    tries_in_no_way : ¬ Tries k r old try.End new → TriesSo k r words old (Ok try.End) new → ⊥
+    tries_in_no_way : ¬ Tries at.key at.row old try.End new → TriesSo at old (Ok try.End) new → ⊥
     tries_in_no_way none so = none so.tried
 
 -- of a hangup
-module _ (k : Key) (r : Row) (proc : Running) (after : Process) where
-  module _ (old new : Account Entry) where
-    hangs_up_with_no_entry : ¬ Enters k (entry.Hung 2) old new
-        → HangsUpWriting k r 1 old proc new after → ⊥
+module _ (at : Direction) where
+  module _ (old new : Writer) where
+    hangs_up_with_no_entry : ¬ Enters at.key (entry.Hung 2) old.seat new.seat
+        → HangsUpWriting at 1 old new → ⊥
     hangs_up_with_no_entry none hangs = none hangs.hung
 
-    hangs_up_and_wakes_otherwise : ¬ WakesIfKnown r proc after
-        → HangsUpWriting k r 1 old proc new after → ⊥
+    hangs_up_and_wakes_otherwise : ¬ WakesBoth at old.process new.process
+        → HangsUpWriting at 1 old new → ⊥
     hangs_up_and_wakes_otherwise none hangs = none hangs.woken
 
-  module _ (old new : Lending) where
-    reader_hangs_with_no_entry : ¬ Enters k (entry.Hung 0) old.taker.account new.taker.account
-        → HangsUpReading k r old proc new after → ⊥
+  module _ (old new : Calling) where
+    reader_hangs_with_no_entry :
+        ¬ Enters at.key (entry.Hung 0) old.seat.taker.account new.seat.taker.account
+        → HangsUpReading at old new → ⊥
     reader_hangs_with_no_entry none hangs = none hangs.hung
 
-    reader_drops_its_rest : new.taker.rest ≢ old.taker.rest
-        → HangsUpReading k r old proc new after → ⊥
+    reader_drops_its_rest : new.seat.taker.rest ≢ old.seat.taker.rest
+        → HangsUpReading at old new → ⊥
     reader_drops_its_rest other hangs = other hangs.rest
 
-    reader_fills_its_buffer : new.buffer ≢ old.buffer → HangsUpReading k r old proc new after → ⊥
+    reader_fills_its_buffer : new.seat.buffer ≢ old.seat.buffer → HangsUpReading at old new → ⊥
     reader_fills_its_buffer other hangs = other hangs.buffer
 
-    reader_wakes_otherwise : ¬ WakesIfKnown r proc after → HangsUpReading k r old proc new after
-        → ⊥
+    reader_wakes_otherwise : ¬ WakesBoth at old.process new.process
+        → HangsUpReading at old new → ⊥
     reader_wakes_otherwise none hangs = none hangs.woken
+
+-- who is woken in a kernel that has the Rendez, and in another one
+module _ (at : Direction) (before after : Process) (wakes : WakesBoth at before after) where
+  wakes_both_there : OwnsRow at.words at.row → WakesAll at.row before after
+  wakes_both_there owns = wakes.known owns
+
+  wakes_none_elsewhere : ¬ OwnsRow at.words at.row → after ≡ before
+  wakes_none_elsewhere lacks = wakes.foreign lacks

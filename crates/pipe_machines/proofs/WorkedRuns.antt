@@ -1,5 +1,5 @@
--- Runs of a pipe's calls, computed: waits that a write, a read and a hangup end, a read between a put
--- and the moment its write stands, a stream read that wakes within its wait, and a deadlock.
+-- Runs of a pipe's calls, computed: waits that a write, a read and a hangup end, a read between a
+-- put and the moment its write stands, a stream read that wakes within its wait, and a deadlock.
 use Rattle.std.proofs.Common.{◌≡◌, ◌<◌, inr, ℕ, zero, suc, Some, None, List, [], ◌∷◌, Ok, refl}
 use Rattle.std.proofs.Common.{arith}
 use Rattle.sync_base.specs.declared.fault.Fault.TheVariants as fault
@@ -29,16 +29,18 @@ use Rattle.pipe_machines.specs.Requests.{PipeReply, PipeRequest}
 use Rattle.pipe_machines.specs.Requests.PipeRequest.{Hang, NextPart, Put, Stand}
 use Rattle.pipe_machines.specs.Tries.TryState.{Tries}
 use Rattle.pipe_machines.specs.WriteMachine.{PutState}
-use Rattle.pipe_machines.proofs.WorkedDirection.{CallOut, CallState, Direction, pipe_system}
+use Rattle.pipe_machines.proofs.WorkedDirection.{CallOut, CallState, DirectionState, pipe_system}
 use Rattle.pipe_machines.proofs.WorkedDirection.CallState.{Hangs, Reads, Writes}
 
+-- two bytes, for a first write
 abbrev pub a : List ℕ
 a = 97 ∷ 98 ∷ []
 
+-- one byte, for another write
 abbrev pub b : List ℕ
 b = 99 ∷ []
 
--- room for three bytes
+-- a buffer with room for three bytes
 abbrev pub room : List ℕ
 room = 0 ∷ 0 ∷ 0 ∷ []
 
@@ -62,7 +64,7 @@ abbrev hangs : ℕ → CallState
 hangs writer = Hangs (suc writer) HangState.Hanging
 
 abbrev Calls : Type 0
-Calls = System CallState PipeRequest PipeReply CallOut Direction
+Calls = System CallState PipeRequest PipeReply CallOut DirectionState
 
 -- processes that make these calls
 abbrev calls_of : Mode → ℕ → List CallState → Calls

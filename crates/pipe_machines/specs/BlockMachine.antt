@@ -1,12 +1,11 @@
 -- The machine of a read of a whole block: it asks for what is left of a write; if a write was taken
--- out for it, each writer is woken with its number. If nothing is there yet it waits and asks again.
--- After pipe(3) and bread of the kernel's devices.
+-- out for it, each writer is woken with its number. If nothing is there yet it waits, and asks
+-- again. After pipe(3) and bread of the kernel's devices.
 use Rattle.std.specs.Prelude.{◌↔◌, ℕ, suc, Option, Some, None, Result, Ok}
 use Rattle.std.specs.Prelude.{IsErrOf, if◌then◌else◌}
 use Rattle.sync_base.specs.declared.fault.Fault.{Fault}
 use Rattle.sync_base.specs.declared.fault.Fault.TheVariants as fault
 use Rattle.rendez_words.specs.declared.words.Words.{Words}
-use Rattle.block_queue.specs.declared.view.Key.{Key}
 use Rattle.pipe_dev.specs.declared.answers.ReadAnswer.{ReadAnswer}
 use Rattle.pipe_dev.specs.declared.answers.ReadAnswer.TheVariants as read
 use Rattle.pipe_dev.specs.declared.row.Row.{Row}
@@ -17,7 +16,8 @@ use Rattle.waiting.specs.declared.call.Reply.{Reply as WaitReply}
 use Rattle.waiting.specs.declared.call.Reply.TheVariants as reply
 use Rattle.call_machines.specs.Machine.{Machine, Next, Outcome}
 use Rattle.call_machines.specs.Plays.{Makes}
-use Rattle.pipe_machines.specs.Requests.{PipeReply, PipeRequest, ServesReader, has_row, wakes_next}
+use Rattle.pipe_machines.specs.Requests.{Direction, PipeReply, PipeRequest, ServesReader, has_row}
+use Rattle.pipe_machines.specs.Requests.{wakes_next}
 use Rattle.pipe_machines.specs.Requests.PipeRequest.{NextBlock}
 use Rattle.pipe_machines.specs.Tries.{TryState, tries_of}
 use Rattle.pipe_machines.specs.Tries.TryState.{Fails, Tries}
@@ -69,16 +69,15 @@ module _ (row : Row) where
 -- ---- what the contract says is what the machine plays
 
 -- the contract of a read of a block, of its end and its process
-pub record ReadsBlockSo (key : Key) (row : Row) (words : Words) (old : Calling)
-    (answer : Result ReadAnswer Fault) (new : Calling) : Type 0 where
-  pub no_rendez : IsErrOf answer fault.NoRendez ↔ ¬ OwnsRow words row
-  pub read : ReadsBlock key row old answer new
+pub record ReadsBlockSo (direction : Direction) (old : Calling) (answer : Result ReadAnswer Fault)
+    (new : Calling) : Type 0 where
+  pub no_rendez : IsErrOf answer fault.NoRendez ↔ ¬ OwnsRow direction.words direction.row
+  pub read : ReadsBlock direction.key direction.row old answer new
 
 -- The contract of a read of a block holds if and only if its machine plays so.
 abbrev pub BlockReadsArePlays : Type 0
 BlockReadsArePlays =
-    (key : Key) (row : Row) (words : Words) (old : Calling) (answer : Result ReadAnswer Fault)
-    (new : Calling)
-    → ReadsBlockSo key row words old answer new
-    ↔ Makes (ServesReader key) (block_machine row)
-    (record { state = block_start row words; at = old }) answer new
+    (direction : Direction) (old : Calling) (answer : Result ReadAnswer Fault) (new : Calling)
+    → ReadsBlockSo direction old answer new
+    ↔ Makes (ServesReader direction.key) (block_machine direction.row)
+    (record { state = block_start direction.row direction.words; at = old }) answer new

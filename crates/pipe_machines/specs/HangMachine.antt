@@ -1,22 +1,18 @@
 -- The machine of a hangup: the direction is hung up, and then both sides are woken, if the kernel
 -- of the process has their Rendez. From pipe(2).
 use Rattle.std.specs.Prelude.{◌≡◌, ◌↔◌, ◌+◌, ℕ, suc, Bool, true, false, Ok}
-use Rattle.histories.specs.declared.account.Account.{Account}
 use Rattle.sync_base.specs.declared.limits.TheConstants.{TOP_LEVEL}
 use Rattle.rendez_words.specs.Process.{Process}
-use Rattle.sleep_wakeup.specs.Kernel.{Running}
-use Rattle.block_queue.specs.declared.entry.Entry.{Entry}
 use Rattle.block_queue.specs.declared.entry.Entry.TheVariants as entry
-use Rattle.block_queue.specs.declared.view.Key.{Key}
 use Rattle.block_queue.specs.Meaning.{Enters}
 use Rattle.pipe_dev.specs.declared.row.Row.{Row}
-use Rattle.pipe_dev.specs.Filling.{Lending}
+use Rattle.pipe_dev.specs.ReadCalls.{Calling}
 use Rattle.pipe_dev.specs.Rendezes.{WakesIfKnown, reader_rendez}
-use Rattle.waiting.specs.Waiting.{point}
+use Rattle.pipe_dev.specs.WriteCalls.{Writer}
 use Rattle.call_machines.specs.Machine.{Machine, Next, Outcome}
 use Rattle.call_machines.specs.Plays.{Makes}
-use Rattle.pipe_machines.specs.Requests.{PipeReply, PipeRequest, ServesReader, ServesWriter, has_row}
-use Rattle.pipe_machines.specs.Requests.{wakes_next}
+use Rattle.pipe_machines.specs.Requests.{Direction, PipeReply, PipeRequest, ServesReader}
+use Rattle.pipe_machines.specs.Requests.{ServesWriter, has_row, wakes_next}
 use Rattle.pipe_machines.specs.Requests.PipeRequest.{Hang}
 
 -- where a hangup is
@@ -54,35 +50,40 @@ module _ (row : Row) (known : Bool) (seat : ℕ) where
 
 -- ---- what each contract says is what the machine plays
 
+-- who is woken, in the kernel of the process
+abbrev pub WakesBoth : Direction → Process → Process → Type 0
+WakesBoth direction before after =
+    WakesIfKnown direction.row (record { words = direction.words; process = before }) after
+
 -- the contract of a write end's hangup, of its seat and its process
-pub record HangsUpWriting (key : Key) (row : Row) (writer : ℕ) (old : Account Entry)
-    (proc : Running) (new : Account Entry) (after : Process) : Type 0 where
-  pub hung : Enters key (entry.Hung (writer + 1)) old new
-  pub woken : WakesIfKnown row proc after
+pub record HangsUpWriting (direction : Direction) (writer : ℕ) (old new : Writer) : Type 0 where
+  pub hung : Enters direction.key (entry.Hung (writer + 1)) old.seat new.seat
+  pub woken : WakesBoth direction old.process new.process
 
 -- and of a read end's, which leaves what is left of a write, and has no buffer to change
-pub record HangsUpReading (key : Key) (row : Row) (old : Lending) (proc : Running) (new : Lending)
-    (after : Process) : Type 0 where
-  pub hung : Enters key (entry.Hung 0) old.taker.account new.taker.account
-  pub rest : new.taker.rest ≡ old.taker.rest
-  pub buffer : new.buffer ≡ old.buffer
-  pub woken : WakesIfKnown row proc after
+pub record HangsUpReading (direction : Direction) (old new : Calling) : Type 0 where
+  pub hung : Enters direction.key (entry.Hung 0) old.seat.taker.account new.seat.taker.account
+  pub rest : new.seat.taker.rest ≡ old.seat.taker.rest
+  pub buffer : new.seat.buffer ≡ old.seat.buffer
+  pub woken : WakesBoth direction old.process new.process
+
+-- the machine of a hangup by this seat of the direction
+abbrev pub hangs_up : Direction → ℕ → Machine HangState PipeRequest PipeReply Unit
+hangs_up direction seat =
+    hang_machine direction.row (has_row direction.words direction.row) seat
 
 -- The contract of a write end's hangup holds if and only if its machine plays so.
 abbrev pub WriteHangupsArePlays : Type 0
 WriteHangupsArePlays =
-    (key : Key) (row : Row) (writer : ℕ) (old : Account Entry) (proc : Running)
-    (new : Account Entry) (after : Process)
-    → HangsUpWriting key row writer old proc new after
-    ↔ Makes (ServesWriter key) (hang_machine row (has_row proc.words row) (writer + 1))
-    (record { state = Hanging; at = point old proc }) (Ok tt)
-    (record { seat = new; process = after })
+    (direction : Direction) (writer : ℕ) (old new : Writer)
+    → HangsUpWriting direction writer old new
+    ↔ Makes (ServesWriter direction.key) (hangs_up direction (writer + 1))
+    (record { state = Hanging; at = old }) (Ok tt) new
 
 -- So does that of a read end's.
 abbrev pub ReadHangupsArePlays : Type 0
 ReadHangupsArePlays =
-    (key : Key) (row : Row) (old : Lending) (proc : Running) (new : Lending) (after : Process)
-    → HangsUpReading key row old proc new after
-    ↔ Makes (ServesReader key) (hang_machine row (has_row proc.words row) 0)
-    (record { state = Hanging; at = point old proc }) (Ok tt)
-    (record { seat = new; process = after })
+    (direction : Direction) (old new : Calling)
+    → HangsUpReading direction old new
+    ↔ Makes (ServesReader direction.key) (hangs_up direction 0)
+    (record { state = Hanging; at = old }) (Ok tt) new

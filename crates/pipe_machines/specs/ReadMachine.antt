@@ -1,7 +1,7 @@
--- The machine of a read, part by part: it asks for a part into the room that is left; in stream mode
--- it goes on while there is room. Then each writer is woken with the number of the last write that
--- was taken out, if there is one. A read that waits and got no byte sleeps, and reads again. From
--- read(2), pipe(2) and pipe(3).
+-- The machine of a read, part by part: it asks for a part into the room that is left; in stream
+-- mode it goes on while there is room. Then each writer is woken with the number of the last write
+-- that was taken out, if there is one. A read that waits and got no byte sleeps, and reads again.
+-- From read(2), pipe(2) and pipe(3).
 use Rattle.std.specs.Prelude.{◌≡◌, ◌≢◌, ◌⊎◌, ◌↔◌, ◌+◌, ◌-◌, ℕ, suc, nat_lt, Bool, true, false}
 use Rattle.std.specs.Prelude.{List, [], ◌∷◌, length, Option, Some, None, Result, Ok, Err}
 use Rattle.std.specs.Prelude.{IfErr, IfOk, IsErrOf, OnErr, if◌then◌else◌}
@@ -9,7 +9,6 @@ use Rattle.sync_base.specs.declared.fault.Fault.{Fault}
 use Rattle.sync_base.specs.declared.fault.Fault.TheVariants as fault
 use Rattle.sync_base.specs.Pipe.{by_mode}
 use Rattle.rendez_words.specs.declared.words.Words.{Words}
-use Rattle.block_queue.specs.declared.view.Key.{Key}
 use Rattle.pipe_dev.specs.declared.answers.ReadAnswer.{ReadAnswer}
 use Rattle.pipe_dev.specs.declared.answers.TryAnswer.{TryAnswer}
 use Rattle.pipe_dev.specs.declared.answers.TryAnswer.TheVariants as try
@@ -23,7 +22,8 @@ use Rattle.pipe_dev.specs.Rendezes.{OwnsRow, reader_rendez}
 use Rattle.waiting.specs.declared.call.Reply.{Reply as WaitReply}
 use Rattle.call_machines.specs.Machine.{Machine, Next, Outcome}
 use Rattle.call_machines.specs.Plays.{Makes}
-use Rattle.pipe_machines.specs.Requests.{PipeReply, PipeRequest, ServesReader, has_row, wakes_next}
+use Rattle.pipe_machines.specs.Requests.{Direction, PipeReply, PipeRequest, ServesReader, has_row}
+use Rattle.pipe_machines.specs.Requests.{wakes_next}
 use Rattle.pipe_machines.specs.Requests.PipeRequest.{NextPart}
 use Rattle.pipe_machines.specs.Tries.{TryState, tries_of}
 
@@ -75,10 +75,10 @@ module _ {Out : Type 0} (row : Row) (room : ℕ) (told : ReadOutcome → Out) wh
   fill_machine = record { does = fill_does; goes_on = fill_goes_on }
 
 -- a buffer of no bytes is refused first, and then a kernel that lacks Rendez
-abbrev pub refused_first : {State : Type 0} → (Fault → State) → State → Words → Row → List ℕ → State
-refused_first refused starts words row [] = refused fault.BadCount
-refused_first refused starts words row (byte ∷ bytes) =
-    if has_row words row then starts else refused fault.NoRendez
+abbrev pub refused_first : {State : Type 0} → (Fault → State) → State → Bool → List ℕ → State
+refused_first refused starts known [] = refused fault.BadCount
+refused_first refused starts known (byte ∷ bytes) =
+    if known then starts else refused fault.NoRendez
 
 -- ---- a read that does not wait
 
@@ -97,7 +97,7 @@ module _ (row : Row) (buffer : List ℕ) where
 
   abbrev pub try_start : Words → FillState TryAnswer
   try_start words =
-      refused_first (λ why. Told (Err why)) (Filling 0 None) words row buffer
+      refused_first (λ why. Told (Err why)) (Filling 0 None) (has_row words row) buffer
 
   -- ---- a read that waits
 
@@ -111,42 +111,43 @@ module _ (row : Row) (buffer : List ℕ) where
 
   abbrev pub read_start : Words → TryState (FillState (WaitReply ReadAnswer))
   read_start words =
-      refused_first (λ why. TryState.Fails why) (TryState.Tries (Filling 0 None)) words row buffer
+      refused_first (λ why. TryState.Fails why) (TryState.Tries (Filling 0 None))
+      (has_row words row) buffer
 
 -- ---- what each contract says is what the machine plays
 
 -- the contract of a read that does not wait, of its end and its process
-pub record TriesSo (key : Key) (row : Row) (words : Words) (old : Calling)
-    (answer : Result TryAnswer Fault) (new : Calling) : Type 0 where
+pub record TriesSo (direction : Direction) (old : Calling) (answer : Result TryAnswer Fault)
+    (new : Calling) : Type 0 where
   pub bad_count : IsErrOf answer fault.BadCount ↔ (old.seat.buffer ≡ [])
   pub no_rendez : old.seat.buffer ≢ []
-      → (IsErrOf answer fault.NoRendez ↔ ¬ OwnsRow words row)
+      → (IsErrOf answer fault.NoRendez ↔ ¬ OwnsRow direction.words direction.row)
   pub faults : IfErr answer (λ why. (why ≡ fault.BadCount) ⊎ (why ≡ fault.NoRendez))
   pub refused : OnErr answer (new ≡ old)
-  pub tried : IfOk answer (λ got. Tries key row old got new)
+  pub tried : IfOk answer (λ got. Tries direction.key direction.row old got new)
 
 -- and of one that waits
-pub record ReadsSo (key : Key) (row : Row) (words : Words) (old : Calling)
-    (answer : Result ReadAnswer Fault) (new : Calling) : Type 0 where
+pub record ReadsSo (direction : Direction) (old : Calling) (answer : Result ReadAnswer Fault)
+    (new : Calling) : Type 0 where
   pub bad_count : IsErrOf answer fault.BadCount ↔ (old.seat.buffer ≡ [])
   pub no_rendez : old.seat.buffer ≢ []
-      → (IsErrOf answer fault.NoRendez ↔ ¬ OwnsRow words row)
-  pub read : Reads key row old answer new
+      → (IsErrOf answer fault.NoRendez ↔ ¬ OwnsRow direction.words direction.row)
+  pub read : Reads direction.key direction.row old answer new
 
 -- The contract of a read that does not wait holds if and only if its machine plays so.
 abbrev pub TriesArePlays : Type 0
 TriesArePlays =
-    (key : Key) (row : Row) (words : Words) (old : Calling) (answer : Result TryAnswer Fault)
-    (new : Calling)
-    → TriesSo key row words old answer new
-    ↔ Makes (ServesReader key) (try_machine row old.seat.buffer)
-    (record { state = try_start row old.seat.buffer words; at = old }) answer new
+    (direction : Direction) (old : Calling) (answer : Result TryAnswer Fault) (new : Calling)
+    → TriesSo direction old answer new
+    ↔ Makes (ServesReader direction.key) (try_machine direction.row old.seat.buffer)
+    (record { state = try_start direction.row old.seat.buffer direction.words; at = old })
+    answer new
 
 -- So does that of a read that waits.
 abbrev pub ReadsArePlays : Type 0
 ReadsArePlays =
-    (key : Key) (row : Row) (words : Words) (old : Calling) (answer : Result ReadAnswer Fault)
-    (new : Calling)
-    → ReadsSo key row words old answer new
-    ↔ Makes (ServesReader key) (read_machine row old.seat.buffer)
-    (record { state = read_start row old.seat.buffer words; at = old }) answer new
+    (direction : Direction) (old : Calling) (answer : Result ReadAnswer Fault) (new : Calling)
+    → ReadsSo direction old answer new
+    ↔ Makes (ServesReader direction.key) (read_machine direction.row old.seat.buffer)
+    (record { state = read_start direction.row old.seat.buffer direction.words; at = old })
+    answer new

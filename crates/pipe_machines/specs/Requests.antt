@@ -128,6 +128,12 @@ module _ (key : Key) where
 
 -- ---- what the machines of both ends have in common
 
+-- a direction as a process finds it: its queue, its Rendez, and the words of the process's kernel
+pub record Direction : Type 0 where
+  pub key : Key
+  pub row : Row
+  pub words : Words
+
 -- whether the kernel with these words has the Rendez of the direction
 abbrev pub has_row : Words → Row → Bool
 has_row words row = nat_le (row.first + 1 + row.writers) (rendez_of words)

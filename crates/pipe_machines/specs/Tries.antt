@@ -51,7 +51,7 @@ module _ {State Request Reply Out : Type 0} (one : Machine State Request Reply (
   try_goes_on (Tries at) came = goes_so (one.does at) at came
   try_goes_on (Fails why) came = Fails why
 
-  -- The call whose tries are these. Each try after its first one begins in this state, and it sleeps
-  -- in this Rendez.
+  -- The call whose tries are these. Each try after its first one begins in this state, and the call
+  -- sleeps in this Rendez.
   abbrev pub tries_of : Machine (TryState State) Request Reply Out
   tries_of = record { does = try_does; goes_on = try_goes_on }

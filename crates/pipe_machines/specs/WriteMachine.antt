@@ -1,6 +1,6 @@
 -- The machine of a write: it puts its bytes; if that is accepted the write stands, and the reader
--- is woken with its number. If there is no room it waits and puts them again. From write(2), pipe(2)
--- and pipe(3).
+-- is woken with its number. If there is no room it waits, and puts them again. From write(2),
+-- pipe(2) and pipe(3).
 use Rattle.std.specs.Prelude.{◌↔◌, ◌<◌, ◌≤◌, ℕ, nat_le, Bool, true, false, Result, Ok, length}
 use Rattle.std.specs.Prelude.{IsErrOf, if◌then◌else◌}
 use Rattle.sync_base.specs.declared.fault.Fault.{Fault}

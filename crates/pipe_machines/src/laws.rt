@@ -6,18 +6,20 @@ ghost use Rattle.pipe_machines.specs.LongMachine.{LongPlaysAreWrites, OwnLongWri
 ghost use Rattle.pipe_machines.specs.ReadMachine.{ReadsArePlays, TriesArePlays};
 ghost use Rattle.pipe_machines.specs.WriteMachine.{WritesArePlays};
 
-/// A hangup is as its contract says if and only if its machine plays so.
+/// A hangup by either end is as its contract says if and only if its machine plays so.
 pub fn hangups_are_plays()
     ensures writers { WriteHangupsArePlays }
     ensures readers { ReadHangupsArePlays }
 {}
 
-/// So is a write.
+/// A write is as its contract says if and only if its machine plays so, with memory for its block
+/// or without.
 pub fn writes_are_plays()
     ensures { WritesArePlays }
 {}
 
-/// So is a read, whether it waits or not, and a read of a whole block.
+/// A read is as its contract says if and only if its machine plays so: one that does not wait, one
+/// that waits, and a read of a whole block.
 pub fn reads_are_plays()
     ensures tries { TriesArePlays }
     ensures reads { ReadsArePlays }
