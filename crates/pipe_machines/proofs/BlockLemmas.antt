@@ -35,7 +35,7 @@ use Rattle.pipe_machines.proofs.PlayLemmas.{Comes, EndsSo, at_start, ends_so, ma
 use Rattle.pipe_machines.proofs.PlayLemmas.{over_at_once, whole}
 use Rattle.pipe_machines.proofs.RetryLemmas.{Tells, is_play, is_wait}
 use Rattle.pipe_machines.proofs.WakingLemmas.{HasWoken, all_are_woken, has_row_owns, lacks_row}
-use Rattle.pipe_machines.proofs.WakingLemmas.{none_woken, not_replied, not_slept, one_woken}
+use Rattle.pipe_machines.proofs.WakingLemmas.{none_woken, not_replied, not_slept, not_took, one_woken}
 use Rattle.pipe_machines.proofs.WakingLemmas.{wakes_all}
 
 module _ (key : Key) (row : Row) (first : Calling) where
@@ -102,6 +102,8 @@ module _ (key : Key) (row : Row) (first : Calling) where
       absurd (not_replied Serves row number (got count) woken told old new done)
   step (WakingWriters woken number count) (Outcome.Slept ended) old new says done =
       absurd (not_slept Serves row number (got count) woken ended old new done)
+  step (WakingWriters woken number count) (Outcome.Took set) old new says done =
+      absurd (not_took Serves row number (got count) woken set old new done)
   step at other old new says done = absurd done
 
   tells : (answer : Result (WaitReply ReadAnswer) Fault) (new : Calling)

@@ -33,7 +33,7 @@ use Rattle.pipe_machines.specs.Requests.{PipeReply, PipeRequest, ReadsPart, Serv
 use Rattle.pipe_machines.specs.Requests.{ServesReader, overwritten}
 use Rattle.pipe_machines.proofs.PlayLemmas.{Comes, EndsSo, at_start, ends_so, more, whole}
 use Rattle.pipe_machines.proofs.WakingLemmas.{HasWoken, all_are_woken, none_woken, not_replied}
-use Rattle.pipe_machines.proofs.WakingLemmas.{not_slept, one_woken, wakes_all}
+use Rattle.pipe_machines.proofs.WakingLemmas.{not_slept, not_took, one_woken, wakes_all}
 
 -- a part of which something is left fills its room
 rest_or_full : (room : ℕ) (left : Part)
@@ -353,6 +353,8 @@ module _ (key : Key) (row : Row) (first : Calling) where
         absurd (not_replied Serves row number out woken reply old new done)
     step (FillState.WakingWriters woken number out) (Outcome.Slept ended) old new says done =
         absurd (not_slept Serves row number out woken ended old new done)
+    step (FillState.WakingWriters woken number out) (Outcome.Took set) old new says done =
+        absurd (not_took Serves row number out woken set old new done)
     step at other old new says done = absurd done
 
     begins_so : first.seat.buffer ≢ [] → goes [] ≡ true

@@ -24,7 +24,7 @@ use Rattle.pipe_machines.specs.Requests.{ServesWriter, has_row}
 use Rattle.pipe_machines.specs.Requests.PipeRequest.{Hang}
 use Rattle.pipe_machines.proofs.PlayLemmas.{Comes, EndsSo, at_start, ends_so, more, whole}
 use Rattle.pipe_machines.proofs.WakingLemmas.{HasWoken, all_are_woken, has_row_owns, lacks_row}
-use Rattle.pipe_machines.proofs.WakingLemmas.{none_woken, not_replied, not_slept, one_woken}
+use Rattle.pipe_machines.proofs.WakingLemmas.{none_woken, not_replied, not_slept, not_took, one_woken}
 use Rattle.pipe_machines.proofs.WakingLemmas.{wakes_all}
 
 -- a hangup is replied nothing else
@@ -100,6 +100,8 @@ module _ {Seat : Type 0} (Serves : PipeRequest → PipeReply → Seat → Seat �
       absurd (not_replied Serves row TOP_LEVEL (tt {0}) woken reply old new done)
   step (WakingWriters woken) (Outcome.Slept ended) old new says done =
       absurd (not_slept Serves row TOP_LEVEL (tt {0}) woken ended old new done)
+  step (WakingWriters woken) (Outcome.Took set) old new says done =
+      absurd (not_took Serves row TOP_LEVEL (tt {0}) woken set old new done)
   step at other old new says done = absurd done
 
   -- what its machine plays

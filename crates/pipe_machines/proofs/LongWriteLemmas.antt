@@ -156,6 +156,14 @@ module _ (long : WriteCall) (words : Words) (first : Writer) where
           comes = comes;
           last = λ n same. let both = sym over ∙ same in absurd cc;
         }
+    says_in block others taken count at now done between is comes Next.Drain over =
+        record {
+          done = done;
+          between = between;
+          is = is;
+          comes = comes;
+          last = λ n same. let both = sym over ∙ same in absurd cc;
+        }
 
     -- what was done in the long write was done in the write of the block
     done_in : (block : List ℕ) (taken : ℕ) (does : Next PipeRequest ℕ) (came : Outcome PipeReply)
@@ -166,6 +174,7 @@ module _ (long : WriteCall) (words : Words) (first : Writer) where
     done_in block taken (Next.Sleep rendez number) (Outcome.Slept (Err why)) old new done = done
     done_in block taken (Next.Wake rendez level) Outcome.Went old new done = done
     done_in block taken (Next.Return set) Outcome.Went old new done = done
+    done_in block taken Next.Drain (Outcome.Took set) old new done = done
     done_in block taken (Next.Over (Ok number)) came old new done = absurd done
     done_in block taken (Next.Over (Err why)) came old new done = absurd done
     done_in block taken does came old new done = absurd done
@@ -313,6 +322,11 @@ module _ (long : WriteCall) (words : Words) (first : Writer) where
           Outcome.Went old new comes
           (subst (λ (n : Next PipeRequest ℕ). HasDone Serves (long_next block taken n) Outcome.Went
           old new) (sym is) done)
+      one_step block others taken count at (Outcome.Took set) old new Next.Drain is comes done =
+          more Serves (long_machine long memory) start first (Writing block others taken count at)
+          (Outcome.Took set) old new comes
+          (subst (λ (n : Next PipeRequest ℕ). HasDone Serves (long_next block taken n)
+          (Outcome.Took set) old new) (sym is) done)
       one_step block others taken count at came old new does is comes done = absurd done
 
       in_all : (block : List ℕ) (others : List (List ℕ)) (taken count : ℕ) (old : Writer)

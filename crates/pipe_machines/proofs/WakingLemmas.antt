@@ -8,6 +8,7 @@ use Rattle.rendez_words.specs.declared.words.Words.{Words}
 use Rattle.rendez_words.specs.Process.{Process}
 use Rattle.rendez_words.specs.Words.{rendez_of}
 use Rattle.sync_base.specs.declared.fault.Fault.{Fault}
+use Rattle.sync_base.specs.declared.note.NoteSet.{NoteSet}
 use Rattle.waiting.specs.Waiting.{Point}
 use Rattle.pipe_dev.specs.declared.row.Row.{Row}
 use Rattle.pipe_dev.specs.Rendezes.{OwnsRow, WakesWriters, writer_rendez}
@@ -114,6 +115,17 @@ module _ {Seat Out : Type 0} (Serves : PipeRequest → PipeReply → Seat → Se
       by : (b : Bool)
           → HasDone Serves (if b then Next.Wake (writer_rendez row woken) number
           else Next.Over (Ok out)) (Outcome.Slept ended) old new → ⊥
+      by true done = done
+      by false done = done
+
+  -- no notes come of a wakeup
+  pub not_took : (woken : ℕ) (set : NoteSet) (old new : Point Seat)
+      → HasDone Serves (wakes_next row woken number out) (Outcome.Took set) old new → ⊥
+  not_took woken set old new done = by (nat_lt woken row.writers) done
+    where
+      by : (b : Bool)
+          → HasDone Serves (if b then Next.Wake (writer_rendez row woken) number
+          else Next.Over (Ok out)) (Outcome.Took set) old new → ⊥
       by true done = done
       by false done = done
 

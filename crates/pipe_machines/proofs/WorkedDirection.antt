@@ -1,9 +1,8 @@
 -- A direction as an object that replies to each request, and the system of processes that call it,
 -- for the worked runs. Own: a write that was accepted and does not stand is not read.
 use Rattle.std.proofs.Common.{◌+◌, ℕ, nat_lt, Bool, true, false, if◌then◌else◌, List, length}
-use Rattle.std.proofs.Common.{take, Option, Some, None, Result, Ok, Err}
+use Rattle.std.proofs.Common.{take, Option, Some, None}
 use Rattle.std.specs.Prelude.{◌==◌}
-use Rattle.sync_base.specs.declared.fault.Fault.{Fault}
 use Rattle.sync_base.specs.declared.limits.TheConstants.{ATOMIC_SIZE, LAST_WRITE}
 use Rattle.sync_base.specs.Pipe.{begun_number, next_number, next_write, waiting_of}
 use Rattle.sync_base.specs.Write.{Write}
@@ -15,7 +14,7 @@ use Rattle.pipe_dev.specs.declared.row.Row.{Row}
 use Rattle.pipe_dev.specs.Parts.{Part, rest_of, whole_at}
 use Rattle.pipe_dev.specs.WriteCalls.{WriteCall}
 use Rattle.waiting.specs.declared.call.Reply.{Reply as WaitReply}
-use Rattle.call_machines.specs.Machine.{Machine, Next, Outcome}
+use Rattle.call_machines.specs.Machine.{Machine, Next, Outcome, next_with}
 use Rattle.call_machines.specs.Runs.{System}
 use Rattle.pipe_machines.specs.BlockMachine.{BlockState, block_machine}
 use Rattle.pipe_machines.specs.HangMachine.{HangState, hang_machine}
@@ -131,18 +130,6 @@ pub data CallOut : Type 0 where
   HasRead : ReadAnswer → CallOut
   HungUp : CallOut
 
-abbrev result_with : {Out Other : Type 0} → (Out → Other) → Result Out Fault → Result Other Fault
-result_with out (Ok got) = Ok (out got)
-result_with out (Err why) = Err why
-
-abbrev next_with : {Request Out Other : Type 0} → (Out → Other) → Next Request Out
-    → Next Request Other
-next_with out (Next.Ask request) = Next.Ask request
-next_with out (Next.Sleep rendez number) = Next.Sleep rendez number
-next_with out (Next.Wake rendez level) = Next.Wake rendez level
-next_with out (Next.Return set) = Next.Return set
-next_with out (Next.Over answer) = Next.Over (result_with out answer)
-
 module _ (key : Key) (row : Row) where
   abbrev call_of : ℕ → List ℕ → WriteCall
   call_of writer bytes = record { key = key; row = row; writer = writer; bytes = bytes }
@@ -150,10 +137,10 @@ module _ (key : Key) (row : Row) where
   -- what a call of each kind does next
   abbrev pub call_does : CallState → Next PipeRequest CallOut
   call_does (Writes writer bytes at) =
-      next_with Wrote ((write_machine (call_of writer bytes)).does at)
-  call_does (Reads buffer at) = next_with HasRead ((read_machine row buffer).does at)
-  call_does (Blocks at) = next_with HasRead ((block_machine row).does at)
-  call_does (Hangs seat at) = next_with (λ unit. HungUp) ((hang_machine row true seat).does at)
+      next_with (λ request. request) Wrote ((write_machine (call_of writer bytes)).does at)
+  call_does (Reads buffer at) = next_with (λ request. request) HasRead ((read_machine row buffer).does at)
+  call_does (Blocks at) = next_with (λ request. request) HasRead ((block_machine row).does at)
+  call_does (Hangs seat at) = next_with (λ request. request) (λ unit. HungUp) ((hang_machine row true seat).does at)
 
   -- where a call of each kind goes on
   abbrev pub call_goes_on : CallState → Outcome PipeReply → CallState
