@@ -35,8 +35,8 @@ use Rattle.pipe_machines.proofs.PlayLemmas.{Comes, EndsSo, at_start, ends_so, ma
 use Rattle.pipe_machines.proofs.PlayLemmas.{over_at_once, whole}
 use Rattle.pipe_machines.proofs.RetryLemmas.{Tells, is_play, is_wait}
 use Rattle.pipe_machines.proofs.WakingLemmas.{HasWoken, all_are_woken, has_row_owns, lacks_row}
-use Rattle.pipe_machines.proofs.WakingLemmas.{none_woken, not_replied, not_slept, not_took, one_woken}
-use Rattle.pipe_machines.proofs.WakingLemmas.{wakes_all}
+use Rattle.pipe_machines.proofs.WakingLemmas.{none_woken, not_replied, not_slept, not_took}
+use Rattle.pipe_machines.proofs.WakingLemmas.{one_woken, wakes_all}
 
 module _ (key : Key) (row : Row) (first : Calling) where
   abbrev Serves : PipeRequest → PipeReply → Lending → Lending → Type 0

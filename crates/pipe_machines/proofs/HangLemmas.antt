@@ -24,8 +24,8 @@ use Rattle.pipe_machines.specs.Requests.{ServesWriter, has_row}
 use Rattle.pipe_machines.specs.Requests.PipeRequest.{Hang}
 use Rattle.pipe_machines.proofs.PlayLemmas.{Comes, EndsSo, at_start, ends_so, more, whole}
 use Rattle.pipe_machines.proofs.WakingLemmas.{HasWoken, all_are_woken, has_row_owns, lacks_row}
-use Rattle.pipe_machines.proofs.WakingLemmas.{none_woken, not_replied, not_slept, not_took, one_woken}
-use Rattle.pipe_machines.proofs.WakingLemmas.{wakes_all}
+use Rattle.pipe_machines.proofs.WakingLemmas.{none_woken, not_replied, not_slept, not_took}
+use Rattle.pipe_machines.proofs.WakingLemmas.{one_woken, wakes_all}
 
 -- a hangup is replied nothing else
 only_hung : (key : Key) (seat : ℕ) (reply : PipeReply) (old new : Account Entry)

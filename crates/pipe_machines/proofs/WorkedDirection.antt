@@ -138,9 +138,11 @@ module _ (key : Key) (row : Row) where
   abbrev pub call_does : CallState → Next PipeRequest CallOut
   call_does (Writes writer bytes at) =
       next_with (λ request. request) Wrote ((write_machine (call_of writer bytes)).does at)
-  call_does (Reads buffer at) = next_with (λ request. request) HasRead ((read_machine row buffer).does at)
+  call_does (Reads buffer at) =
+      next_with (λ request. request) HasRead ((read_machine row buffer).does at)
   call_does (Blocks at) = next_with (λ request. request) HasRead ((block_machine row).does at)
-  call_does (Hangs seat at) = next_with (λ request. request) (λ unit. HungUp) ((hang_machine row true seat).does at)
+  call_does (Hangs seat at) =
+      next_with (λ request. request) (λ unit. HungUp) ((hang_machine row true seat).does at)
 
   -- where a call of each kind goes on
   abbrev pub call_goes_on : CallState → Outcome PipeReply → CallState
