@@ -19,10 +19,12 @@ use Rattle.pipe_machines.proofs.PlayLemmas.{Comes, more, whole}
 
 -- ---- tests of numbers
 
-is_below : (a b : ℕ) → nat_lt a b ≡ true → a < b
+-- a number that passes the test is below the other
+pub is_below : (a b : ℕ) → nat_lt a b ≡ true → a < b
 is_below a b test = grind (arith, nat_tests)
 
-is_not_below : (a b : ℕ) → nat_lt a b ≡ false → b ≤ a
+-- a number that fails the test is not below the other
+pub is_not_below : (a b : ℕ) → nat_lt a b ≡ false → b ≤ a
 is_not_below a b test = grind (arith, nat_tests)
 
 -- a number that is below another passes the test

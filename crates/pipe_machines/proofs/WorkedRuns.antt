@@ -1,7 +1,8 @@
 -- Runs of a pipe's calls, computed: waits that a write, a read and a hangup end, a read between a
 -- put and the moment its write stands, a stream read that wakes within its wait, and a deadlock.
 use Rattle.std.proofs.Common.{◌≡◌, ◌<◌, inr, ℕ, zero, suc, Some, None, List, [], ◌∷◌, Ok, refl}
-use Rattle.std.proofs.Common.{arith}
+use Rattle.std.proofs.Common.{arith, true, false}
+use Rattle.std.proofs.lemmas.Bool.{false≢true}
 use Rattle.sync_base.specs.declared.fault.Fault.TheVariants as fault
 use Rattle.sync_base.specs.declared.ids.Pid.{Pid}
 use Rattle.sync_base.specs.declared.ids.RendezId.{RendezId}
@@ -19,18 +20,22 @@ use Rattle.pipe_dev.specs.declared.answers.ReadAnswer.TheVariants as read
 use Rattle.pipe_dev.specs.declared.row.Row.{Row}
 use Rattle.waiting.specs.declared.call.Reply.TheVariants as reply
 use Rattle.call_machines.specs.Ends.{HasStopped, NoRunDeadlocks}
+use Rattle.call_machines.specs.Grain.{coarse_of, moves_of}
+use Rattle.call_machines.specs.GrainEnds.{IsObjectStuck}
 use Rattle.call_machines.specs.Runs.{IsOfCalls, Step, System}
 use Rattle.call_machines.specs.Runs.Act.{Asked, Made}
 use Rattle.call_machines.specs.Schedules.{position_of, run_of}
 use Rattle.call_machines.proofs.ScheduleLemmas.{schedules_are_runs}
+use Rattle.pipe_machines.specs.BlockMachine.{BlockState}
 use Rattle.pipe_machines.specs.HangMachine.{HangState}
+use Rattle.pipe_machines.specs.PipeEnds.{goes_on}
 use Rattle.pipe_machines.specs.ReadMachine.{FillState}
 use Rattle.pipe_machines.specs.Requests.{PipeReply, PipeRequest}
 use Rattle.pipe_machines.specs.Requests.PipeRequest.{Hang, NextPart, Put, Stand}
 use Rattle.pipe_machines.specs.Tries.TryState.{Tries}
 use Rattle.pipe_machines.specs.WriteMachine.{PutState}
-use Rattle.pipe_machines.proofs.WorkedDirection.{CallOut, CallState, DirectionState, pipe_system}
-use Rattle.pipe_machines.proofs.WorkedDirection.CallState.{Hangs, Reads, Writes}
+use Rattle.pipe_machines.specs.PipeRuns.{CallOut, CallState, DirectionState, pipe_system}
+use Rattle.pipe_machines.specs.PipeRuns.CallState.{Blocks, Hangs, Reads, Writes}
 
 -- two bytes, for a first write
 abbrev pub a : List ℕ
@@ -69,7 +74,7 @@ Calls = System CallState PipeRequest PipeReply CallOut DirectionState
 -- processes that make these calls
 abbrev calls_of : Mode → ℕ → List CallState → Calls
 calls_of mode limit starts =
-    pipe_system (key limit) (row mode) 3 starts (hangs 0)
+    pipe_system limit (row mode) 3 starts (hangs 0)
 
 abbrev proc : ℕ → Pid
 proc pid = record { 0 = pid }
@@ -241,3 +246,44 @@ has_stopped (suc pid) low = let one : suc pid < 1 = low in absurd (omega arith)
 -- so some run of this call deadlocks
 alone_deadlocks : NoRunDeadlocks alone → ⊥
 alone_deadlocks none = none asleep is_run has_stopped zero there
+
+-- and the direction tells it: the reader waits, and nothing is there
+alone_is_stuck : IsObjectStuck alone (λ d call. goes_on d call ≡ true)
+    (coarse_of alone (moves_of alone asleep))
+alone_is_stuck zero low =
+    inr (record {
+      rendez = rendez 0;
+      number = 0;
+      does = refl;
+      none = refl;
+      stays = λ goes. false≢true goes;
+    })
+alone_is_stuck (suc pid) low = let one : suc pid < 1 = low in absurd (omega arith)
+
+-- ---- who would go on
+
+-- a direction that a schedule leaves
+abbrev left_by : Calls → List ℕ → DirectionState
+left_by calls movers = (position_of calls movers).object
+
+-- a write that was accepted and does not stand lets no reader go on, and then it does
+not_before_it_stands : goes_on (left_by one_each (0 ∷ 1 ∷ [])) reads ≡ false
+not_before_it_stands = refl
+
+where_it_stands : goes_on (left_by one_each (1 ∷ 0 ∷ 1 ∷ [])) reads ≡ true
+where_it_stands = refl
+
+so_of_a_block : goes_on (left_by one_each (1 ∷ 0 ∷ 1 ∷ [])) (Blocks (Tries BlockState.Reading)) ≡ true
+so_of_a_block = refl
+
+not_while_it_is_full : goes_on (left_by two_write (1 ∷ 1 ∷ [])) (writes 1 b) ≡ false
+not_while_it_is_full = refl
+
+where_one_is_taken_out : goes_on (left_by two_write (0 ∷ 1 ∷ 1 ∷ [])) (writes 1 b) ≡ true
+where_one_is_taken_out = refl
+
+after_a_hangup : goes_on (left_by one_hangs_up (1 ∷ [])) reads ≡ true
+after_a_hangup = refl
+
+a_hangup_waits_for_nobody : goes_on (left_by one_hangs_up []) (hangs 0) ≡ false
+a_hangup_waits_for_nobody = refl

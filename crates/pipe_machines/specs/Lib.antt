@@ -5,3 +5,5 @@ pub mod Requests
 pub mod Tries
 pub mod WriteMachine
 pub mod LongMachine
+pub mod PipeEnds
+pub mod PipeRuns

@@ -3,6 +3,7 @@
 ghost use Rattle.pipe_machines.specs.BlockMachine.{BlockReadsArePlays};
 ghost use Rattle.pipe_machines.specs.HangMachine.{ReadHangupsArePlays, WriteHangupsArePlays};
 ghost use Rattle.pipe_machines.specs.LongMachine.{LongPlaysAreWrites, OwnLongWritesArePlays};
+ghost use Rattle.pipe_machines.specs.PipeEnds.{PipeEndsHold, WaitsAskInVain, WakeupsOfPipesAreDue};
 ghost use Rattle.pipe_machines.specs.ReadMachine.{ReadsArePlays, TriesArePlays};
 ghost use Rattle.pipe_machines.specs.WriteMachine.{WritesArePlays};
 
@@ -31,4 +32,15 @@ pub fn reads_are_plays()
 pub fn long_writes_are_plays()
     ensures plays { LongPlaysAreWrites }
     ensures own { OwnLongWritesArePlays }
+{}
+
+/// Where no process goes on, nobody waits whom the direction would let go on; and who is woken
+/// before that asks in vain. So no run of the calls deadlocks, if in each run at the grain of calls
+/// that comes to where each process has ended, or waits and has to by the direction, all have
+/// ended. Runs need not be looked at in which a sleep is refused, or a wait ends well before the
+/// direction would let the call go on.
+pub fn pipes_wakeups_are_due<P>()
+    ensures due { WakeupsOfPipesAreDue P }
+    ensures vain { WaitsAskInVain P }
+    ensures ends { PipeEndsHold P }
 {}
