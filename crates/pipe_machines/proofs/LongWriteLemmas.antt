@@ -1,5 +1,4 @@
--- What the machine of a long write plays is as its contract says; and what the contract says is
--- played, if the kernel has the Rendez of the direction.
+-- A long write is as its contract says if and only if its machine plays so.
 use Rattle.std.proofs.Common.{◌≡◌, ◌≢◌, ◌+◌, ◌<◌, ◌++◌, ◌∷◌, ℕ, zero, suc, nat_lt, Bool, true}
 use Rattle.std.proofs.Common.{false}
 use Rattle.std.proofs.Common.{List, [], length, reverse, Option, Some, None, Result, Ok, Err}
@@ -16,7 +15,7 @@ use Rattle.pipe_dev.specs.WriteCalls.{EndsLong, atomic_writes, bytes_in, call_fo
 use Rattle.pipe_dev.proofs.LongLemmas.{one_done, some_write}
 use Rattle.call_machines.specs.Machine.{Machine, Next, Outcome}
 use Rattle.call_machines.specs.Plays.{HasDone, MachinePoint, Makes, Plays}
-use Rattle.pipe_machines.specs.LongMachine.{LongPlaysAreWrites, LongState, OwnLongWritesArePlays}
+use Rattle.pipe_machines.specs.LongMachine.{LongState, LongWritesArePlays, PlaysLong}
 use Rattle.pipe_machines.specs.LongMachine.{WritesLongSo, first_begins, goes_by}
 use Rattle.pipe_machines.specs.LongMachine.{in_write, long_does, long_goes_on, long_machine}
 use Rattle.pipe_machines.specs.LongMachine.{long_next, next_begins}
@@ -24,7 +23,7 @@ use Rattle.pipe_machines.specs.LongMachine.LongState.{Writing, Wrote}
 use Rattle.pipe_machines.specs.Requests.{PipeReply, PipeRequest, ServesWriter, has_row}
 use Rattle.pipe_machines.specs.Tries.{TryState}
 use Rattle.pipe_machines.specs.WriteMachine.{PutState, write_begins, write_machine}
-use Rattle.pipe_machines.proofs.PlayLemmas.{Comes, EndsSo, at_start, ends_so, more}
+use Rattle.pipe_machines.proofs.PlayLemmas.{Comes, EndsSo, at_start, ends_so, made_at_once, more}
 use Rattle.pipe_machines.proofs.PlayLemmas.{over_at_once, whole}
 use Rattle.pipe_machines.proofs.PutLemmas.{IsBegun, begun, has_memory, made}
 use Rattle.pipe_machines.proofs.WakingLemmas.{below_is, has_row_owns, lacks_row, not_below_is}
@@ -468,8 +467,9 @@ has_for (Some other) done count low = refl
 has_for None done count low = refl
 
 -- what a long write plays is as promised
-pub long_plays_are_writes : LongPlaysAreWrites
-long_plays_are_writes long words old answer new plays = by (has_row words long.row) refl plays.plays
+plays_are_writes : (long : WriteCall) (words : Words) (old : Writer) (answer : Long) (new : Writer)
+    → PlaysLong long words old answer new → WritesLongSo long words old answer new
+plays_are_writes long words old answer new plays = by (has_row words long.row) refl plays.plays
   where
     cut : (block : List ℕ) × (others : List (List ℕ))
         × (atomic_writes long.bytes ≡ block ∷ others)
@@ -494,6 +494,7 @@ long_plays_are_writes long words old answer new plays = by (has_row words long.r
             λ same. absurd (so.owned same),
             λ lacks. absurd (lacks (has_row_owns words long.row has)),
           );
+          refused = λ lacks. absurd (lacks (has_row_owns words long.row has));
           wrote = so.wrote;
         }
     by false has makes =
@@ -504,6 +505,7 @@ long_plays_are_writes long words old answer new plays = by (has_row words long.r
         subst (λ (a : Long). WritesLongSo long words old a new) answer_is (record {
           too_big = λ same. not_both same;
           no_rendez = (λ same. lacks_row words long.row has, λ lacks. refl);
+          refused = λ lacks. record { long_is = refl; same = is.1 };
           wrote = record {
             done = [];
             between = old;
@@ -552,9 +554,10 @@ module _ (long : WriteCall) (words : Words) (old : Writer) (done : List (List �
       reason : (other : Fault) → ◌≡◌ {A = Result ℕ Fault} (Err why) (Err other) → why ≡ other
       reason other same = cc
 
--- and what is promised is played, where the kernel has the Rendez
-pub own_long_writes_are_plays : OwnLongWritesArePlays
-own_long_writes_are_plays long words old answer new owns so =
+-- and what is promised is played
+writes_are_plays : (long : WriteCall) (words : Words) (old : Writer) (answer : Long) (new : Writer)
+    → WritesLongSo long words old answer new → PlaysLong long words old answer new
+writes_are_plays long words old answer new so =
     record { memory = has_it; plays = by (has_row words long.row) refl }
   where
     has_it : ℕ → Bool
@@ -563,18 +566,30 @@ own_long_writes_are_plays long words old answer new owns so =
     from : LongState
     from = first_begins long has_it (atomic_writes long.bytes)
 
+    none : LongState
+    none = Wrote (record { taken = 0; fault = Some fault.NoRendez })
+
+    told : Long → Result Long Fault
+    told long = Ok long
+
     answer_is : answer ≡ record { taken = bytes_in so.wrote.done; fault = answer.fault }
     answer_is = ap (λ (n : ℕ). record { taken = n; fault = answer.fault }) so.wrote.taken
 
     by : (has : Bool) → has_row words long.row ≡ has
-        → Makes (ServesWriter long.key) (long_machine long has_it) (record {
-          state = if has then from
-              else Wrote (record { taken = 0; fault = Some fault.NoRendez });
-          at = old;
-        }) (Ok answer) new
+        → Makes (ServesWriter long.key) (long_machine long has_it)
+        (record { state = if has then from else none; at = old }) (Ok answer) new
     by true has =
         subst (λ (a : Long). Makes (ServesWriter long.key) (long_machine long has_it)
         (record { state = from; at = old }) (Ok a) new) (sym answer_is)
         (played long words old so.wrote.done so.wrote.between new so.wrote.written answer.fault
-        so.too_big (λ none. so.no_rendez.0 none owns) so.wrote.ended)
-    by false has = absurd (lacks_row words long.row has owns)
+        so.too_big (λ is. so.no_rendez.0 is (has_row_owns words long.row has)) so.wrote.ended)
+    by false has =
+        let refused = so.refused (lacks_row words long.row has) in
+        made_at_once (ServesWriter long.key) (long_machine long has_it) none old
+        (Ok (record { taken = 0; fault = Some fault.NoRendez })) refl (Ok answer) new
+        (ap told refused.long_is) refused.same
+
+-- so the one is the other
+pub long_writes_are_plays : LongWritesArePlays
+long_writes_are_plays long words old answer new =
+    (writes_are_plays long words old answer new, plays_are_writes long words old answer new)

@@ -6,7 +6,8 @@ use Rattle.sync_base.specs.declared.fault.Fault.TheVariants as fault
 use Rattle.rendez_words.specs.declared.words.Words.{Words}
 use Rattle.pipe_dev.specs.declared.answers.Long.{Long}
 use Rattle.pipe_dev.specs.Rendezes.{OwnsRow}
-use Rattle.pipe_dev.specs.WriteCalls.{WriteCall, Writer, WritesLong, atomic_writes, call_for}
+use Rattle.pipe_dev.specs.WriteCalls.{IsLongRefusedAs, WriteCall, Writer, WritesLong, atomic_writes}
+use Rattle.pipe_dev.specs.WriteCalls.{call_for}
 use Rattle.call_machines.specs.Machine.{Machine, Next, Outcome}
 use Rattle.call_machines.specs.Plays.{Makes}
 use Rattle.pipe_machines.specs.Requests.{PipeReply, PipeRequest, ServesWriter, has_row}
@@ -83,6 +84,7 @@ pub record WritesLongSo (long : WriteCall) (words : Words) (old : Writer) (answe
     (new : Writer) : Type 0 where
   pub too_big : answer.fault ≢ Some fault.TooBig
   pub no_rendez : (answer.fault ≡ Some fault.NoRendez) ↔ ¬ OwnsRow words long.row
+  pub refused : ¬ OwnsRow words long.row → IsLongRefusedAs fault.NoRendez old answer new
   pub wrote : WritesLong long old answer new
 
 -- its machine plays so, with memory for its blocks or without
@@ -92,15 +94,8 @@ pub record PlaysLong (long : WriteCall) (words : Words) (old : Writer) (answer :
   pub plays : Makes (ServesWriter long.key) (long_machine long memory)
       (record { state = long_start long memory words; at = old }) (Ok answer) new
 
--- What its machine plays is as the contract of a long write says.
-abbrev pub LongPlaysAreWrites : Type 0
-LongPlaysAreWrites =
+-- A long write is as its contract says if and only if its machine plays so.
+abbrev pub LongWritesArePlays : Type 0
+LongWritesArePlays =
     (long : WriteCall) (words : Words) (old : Writer) (answer : Long) (new : Writer)
-    → PlaysLong long words old answer new → WritesLongSo long words old answer new
-
--- And what the contract says is played, if the kernel has the Rendez of the direction.
-abbrev pub OwnLongWritesArePlays : Type 0
-OwnLongWritesArePlays =
-    (long : WriteCall) (words : Words) (old : Writer) (answer : Long) (new : Writer)
-    → OwnsRow words long.row
-    → WritesLongSo long words old answer new → PlaysLong long words old answer new
+    → WritesLongSo long words old answer new ↔ PlaysLong long words old answer new

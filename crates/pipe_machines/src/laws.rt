@@ -2,7 +2,7 @@
 //! its contract is the law.
 ghost use Rattle.pipe_machines.specs.BlockMachine.{BlockReadsArePlays};
 ghost use Rattle.pipe_machines.specs.HangMachine.{ReadHangupsArePlays, WriteHangupsArePlays};
-ghost use Rattle.pipe_machines.specs.LongMachine.{LongPlaysAreWrites, OwnLongWritesArePlays};
+ghost use Rattle.pipe_machines.specs.LongMachine.{LongWritesArePlays};
 ghost use Rattle.pipe_machines.specs.PipeEnds.{PipeEndsHold, WaitsAskInVain, WakeupsOfPipesAreDue};
 ghost use Rattle.pipe_machines.specs.ReadMachine.{ReadsArePlays, TriesArePlays};
 ghost use Rattle.pipe_machines.specs.WriteMachine.{WritesArePlays};
@@ -27,11 +27,10 @@ pub fn reads_are_plays()
     ensures blocks { BlockReadsArePlays }
 {}
 
-/// What the machine of a long write plays is as its contract says; and what the contract says is
-/// played, if the kernel of its process has the Rendez of the direction.
+/// A long write is as its contract says if and only if its machine plays so, as many blocks as
+/// there is memory for.
 pub fn long_writes_are_plays()
-    ensures plays { LongPlaysAreWrites }
-    ensures own { OwnLongWritesArePlays }
+    ensures { LongWritesArePlays }
 {}
 
 /// Where no process goes on, nobody waits whom the direction would let go on; and who is woken
