@@ -237,6 +237,7 @@ module _ (limit : ℕ) (row : Row) (rendez procs : ℕ) (d : DirectionState) whe
 
   -- ---- each call
 
+  -- where it sleeps it asks again, or in vain
   pub asks_again : (call : CallState) (there : RendezId) (number : ℕ)
       → call_does limit row call ≡ Next.Sleep there number → Again call
   asks_again (Writes writer bytes (TryState.Tries (PutState.Told (reply.Wait n)))) there number is =

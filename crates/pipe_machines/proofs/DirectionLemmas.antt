@@ -1,6 +1,7 @@
 -- What each request leaves of a direction, and which level is due in each of its Rendez.
 use Rattle.std.proofs.Common.{◌≡◌, ◌≢◌, ◌⊎◌, inl, inr, ◌+◌, ◌<◌, ◌≤◌, ◌∷◌, ℕ, zero, suc, eqb}
-use Rattle.std.proofs.Common.{Bool, true, false, if◌then◌else◌, List, [], length, take, Option, Some}
+use Rattle.std.proofs.Common.{Bool, true, false, if◌then◌else◌, List, [], length, take, Option}
+use Rattle.std.proofs.Common.{Some}
 use Rattle.std.proofs.Common.{None, refl, sym, ap, subst, arith, length-append}
 use Rattle.std.proofs.lemmas.Bool.{false≢true}
 use Rattle.std.proofs.lemmas.Bool.Decides.{eqb_tells}
@@ -17,6 +18,7 @@ use Rattle.pipe_machines.specs.Requests.{PipeReply}
 
 -- ---- what always holds of it
 
+-- what it keeps fits its limit and its numbers
 pub record Fits (limit : ℕ) (kept : Contents) : Type 0 where
   -- its limit stays what it was made with
   pub limit_is : kept.limit ≡ limit
@@ -25,25 +27,29 @@ pub record Fits (limit : ℕ) (kept : Contents) : Type 0 where
   -- each number that was given is one
   pub given : kept.taken_out + length kept.waiting ≤ LAST_WRITE
 
+-- and so it opens
 pub opened_fits : (limit : ℕ) → Fits limit (new_kept limit 0)
 opened_fits limit = record { limit_is = refl; room = omega arith; given = omega arith }
 
 -- ---- the level that is due
 
--- in the Rendez of the reader the number of the last write, and in that of each writer the number of
--- the last write that was taken out; after a hangup the greatest level
+-- in the Rendez of the reader the number of the last write, and in that of each writer the number
+-- of the last write that was taken out; after a hangup the greatest level
 abbrev pub level_due : Contents → ℕ → ℕ
 level_due kept zero = if kept.hung then TOP_LEVEL else kept.taken_out + length kept.waiting
 level_due kept (suc writer) = if kept.hung then TOP_LEVEL else kept.taken_out
 
+-- after a hangup it is the greatest
 pub due_hung : (kept : Contents) (i : ℕ) → kept.hung ≡ true → level_due kept i ≡ TOP_LEVEL
 due_hung kept zero hung = rw hung refl
 due_hung kept (suc writer) hung = rw hung refl
 
+-- before one it is so for the reader
 pub due_reader : (kept : Contents) → kept.hung ≡ false
     → level_due kept 0 ≡ kept.taken_out + length kept.waiting
 due_reader kept hung = rw hung refl
 
+-- and so for a writer
 pub due_writer : (kept : Contents) (writer : ℕ) → kept.hung ≡ false
     → level_due kept (suc writer) ≡ kept.taken_out
 due_writer kept writer hung = rw hung refl
@@ -60,6 +66,7 @@ pub data PutCase (kept : Contents) (bytes : List ℕ) : Type 0 where
   IsTaken : kept.hung ≡ false → last_number kept ≢ LAST_WRITE → length kept.waiting ≢ kept.limit
       → put_reply kept bytes ≡ queue.Taken (last_number kept + 1) → PutCase kept bytes
 
+-- each put is one of these
 pub put_case : (kept : Contents) (bytes : List ℕ) → PutCase kept bytes
 put_case kept bytes = by_hung kept.hung refl
   where
@@ -89,8 +96,9 @@ put_case kept bytes = by_hung kept.hung refl
 pub data ReadCase (d : DirectionState) (room : ℕ) (told : PipeReply) (after : DirectionState) :
     Type 0 where
   -- of what is left of a write
-  OfRest : (left : List ℕ) → d.rest ≡ Some left → (count : ℕ) → told ≡ PipeReply.Got count None → after.kept ≡ d.kept
-      → ReadCase d room told after
+  OfRest : (left : List ℕ) → d.rest ≡ Some left
+      → (count : ℕ) → told ≡ PipeReply.Got count None
+      → after.kept ≡ d.kept → ReadCase d room told after
   -- the next write was taken out
   Takes : (write : Write) (writes : List Write)
       → d.kept.waiting ≡ write ∷ writes
@@ -105,6 +113,7 @@ pub data ReadCase (d : DirectionState) (room : ℕ) (told : PipeReply) (after : 
   -- and no more will come
   IsEnd : told ≡ PipeReply.End → after ≡ d → ReadCase d room told after
 
+-- each read of a part is one of these
 pub read_case : (d : DirectionState) (room : ℕ)
     → ReadCase d room (part_told d room d.rest) (part_after d room d.rest)
 read_case d room = by_rest d.rest refl
@@ -198,6 +207,7 @@ writer_below limit kept bytes number writer fits low less goes = by (put_case ke
 
 -- ---- what a put leaves
 
+-- what it keeps still fits
 pub put_fits : (limit : ℕ) (kept : Contents) (writer : ℕ) (bytes : List ℕ) → Fits limit kept
     → Fits limit (after_reply kept (asked.Put writer bytes) (put_reply kept bytes))
 put_fits limit kept writer bytes fits = by (put_case kept bytes)

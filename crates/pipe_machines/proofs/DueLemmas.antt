@@ -26,7 +26,8 @@ use Rattle.call_machines.proofs.CoarseLemmas.{ComesOf, comes_of, each, levels_ri
 use Rattle.call_machines.proofs.CoarseLemmas.{others_now, own_now}
 use Rattle.call_machines.proofs.ProgramLemmas as programs
 use Rattle.pipe_machines.specs.BlockMachine.{BlockState}
-use Rattle.pipe_machines.specs.PipeEnds.{PipeEndsHold, WaitsAskInVain, WakeupsOfPipesAreDue, goes_on}
+use Rattle.pipe_machines.specs.PipeEnds.{PipeEndsHold, WaitsAskInVain, WakeupsOfPipesAreDue}
+use Rattle.pipe_machines.specs.PipeEnds.{goes_on}
 use Rattle.pipe_machines.specs.PipeRuns.{BeginsBy, CallOut, CallState, DirectionState, HasRoom}
 use Rattle.pipe_machines.specs.PipeRuns.{call_does, call_goes_on, idle, pipe_calls}
 use Rattle.pipe_machines.specs.PipeRuns.CallState.{Blocks, Hangs, Reads, Writes}
@@ -115,7 +116,8 @@ begins_by pid (Hangs seat at) begins = tt
 begins_rightly : (limit : ℕ) (d : DirectionState) (pid : ℕ) (call : CallState)
     → BeginsBy pid call → WaitsRightly limit d call
 begins_rightly limit d pid (Writes writer bytes at) begins =
-    subst (λ (s : TryState PutState). WaitsRightly limit d (Writes writer bytes s)) (sym begins.1) tt
+    subst (λ (s : TryState PutState).
+    WaitsRightly limit d (Writes writer bytes s)) (sym begins.1) tt
 begins_rightly limit d pid (Reads buffer at) begins =
     subst (λ (s : TryState (FillState (WaitReply ReadAnswer))).
     WaitsRightly limit d (Reads buffer s)) (sym begins.2) tt
@@ -196,7 +198,8 @@ module _ (limit : ℕ) (row : Row) (rendez procs : ℕ) (room : HasRoom row rend
     abbrev levels_now : List ℕ
     levels_now = levels_by at.levels (call_does limit row old) move.grain
 
-    came : ComesOf system at.object (notes_of system at move.by) (call_does limit row old) move.grain
+    came : ComesOf system at.object (notes_of system at move.by) (call_does limit row old)
+        move.grain
     came =
         comes_of system at.object (notes_of system at move.by) (call_does limit row old) move.grain
         may
@@ -249,7 +252,8 @@ module _ (limit : ℕ) (row : Row) (rendez procs : ℕ) (room : HasRoom row rend
             → IsWoken (moved system at move) i
         of is_same some (inl mine) =
             still (owes_on limit row rendez procs room at.levels due.levels at.object due.fits
-            (notes_of system at move.by) i most old move.grain (due.rightly move.by low) came is_same
+            (notes_of system at move.by) i most old move.grain (due.rightly move.by low) came
+            is_same
             (subst (λ (p : ℕ). IsToWake i (level_due at.object.kept i)
             (slice_index_or at.states p idle)) mine.1 some.is))
           where
@@ -397,8 +401,8 @@ module _ (limit : ℕ) (row : Row) (rendez procs : ℕ) (room : HasRoom row rend
             → HasEnded (call_does limit row (at_of system at some.pid))
             ⊎ WaitsOn system at some.pid → ⊥
         of some (inl over) =
-            ended_so limit row i (level_due at.object.kept i) most (at_of system at some.pid) some.is
-            over
+            ended_so limit row i (level_due at.object.kept i) most (at_of system at some.pid)
+            some.is over
         of some (inr on) =
             asleep_so limit row i (level_due at.object.kept i) most (at_of system at some.pid)
             on.rendez on.number some.is on.does

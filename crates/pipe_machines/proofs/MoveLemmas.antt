@@ -1,7 +1,8 @@
--- One move of a call at a direction: what it leaves of who waits, of the levels that are due, and of
--- who is to be woken.
+-- One move of a call at a direction: what it leaves of who waits, of the levels that are due, and
+-- of who is to be woken.
 use Rattle.std.proofs.Common.{◌≡◌, ◌⊎◌, inl, inr, ◌+◌, ◌-◌, ◌<◌, ◌≤◌, ◌∷◌, ℕ, zero, suc, nat_lt}
-use Rattle.std.proofs.Common.{Bool, true, false, if◌then◌else◌, List, [], length, take, Option, Some}
+use Rattle.std.proofs.Common.{Bool, true, false, if◌then◌else◌, List, [], length, take, Option}
+use Rattle.std.proofs.Common.{Some}
 use Rattle.std.proofs.Common.{None, Ok, Err, refl, sym, ◌∙◌, ap, subst, arith}
 use Rattle.std.proofs.Common.{length-append}
 use Rattle.std.specs.Prelude.{⊤, nat_le}
@@ -43,7 +44,8 @@ use Rattle.pipe_machines.specs.Tries.{TryState, does_so, goes_so}
 use Rattle.pipe_machines.specs.WriteMachine.{PutState}
 use Rattle.pipe_machines.specs.WriteMachine.{after_put as state_after_put}
 use Rattle.pipe_machines.proofs.DirectionLemmas.{Fits, PutCase, ReadCase, due_hung, due_reader}
-use Rattle.pipe_machines.proofs.DirectionLemmas.{due_writer, level_due, put_case, put_fits, read_case}
+use Rattle.pipe_machines.proofs.DirectionLemmas.{due_writer, level_due, put_case, put_fits}
+use Rattle.pipe_machines.proofs.DirectionLemmas.{read_case}
 use Rattle.pipe_machines.proofs.DirectionLemmas.PutCase.{IsFull, IsHungup, IsTaken, IsWorn}
 use Rattle.pipe_machines.proofs.DirectionLemmas.ReadCase.{IsEnd, IsNotYet, OfRest, Takes}
 use Rattle.pipe_machines.proofs.WakingLemmas.{is_above, is_below}
@@ -85,12 +87,16 @@ IsToWake i level (Hangs seat at) = IsHangToWake i level at
 
 -- the reader knows how many are taken out, and no write is begun
 pub record IsRead (d : DirectionState) (number : ℕ) : Type 0 where
+  -- its number is how many
   pub number_is : number ≡ d.kept.taken_out
+  -- and nothing is left of one
   pub none : d.rest ≡ None
 
 -- a writer found no room, and the last number was not given
 pub record HasNoRoom (limit : ℕ) (d : DirectionState) (number : ℕ) : Type 0 where
+  -- so many were taken out when it looked, and as many waited as may
   pub low : number + limit ≤ last_number d.kept
+  -- and there is a number for one more
   pub less : number + limit < LAST_WRITE
 
 abbrev OutRightly : DirectionState → WaitReply ReadAnswer → Type 0
@@ -112,6 +118,7 @@ abbrev PutRightly : ℕ → DirectionState → PutState → Type 0
 PutRightly limit d (PutState.Told (reply.Wait number)) = HasNoRoom limit d number
 PutRightly limit d other = ⊤
 
+-- a call that was told to wait was told so rightly
 abbrev pub WaitsRightly : ℕ → DirectionState → CallState → Type 0
 WaitsRightly limit d (Writes writer bytes (TryState.Tries at)) = PutRightly limit d at
 WaitsRightly limit d (Reads buffer (TryState.Tries at)) = FillRightly d at
@@ -456,9 +463,11 @@ module _ (limit : ℕ) (row : Row) (d : DirectionState) (fits : Fits limit d.kep
     abbrev Comes : Next PipeRequest CallOut → Grain PipeRequest PipeReply → Type 0
     Comes = ComesOf system d notes
 
+    -- what the direction is after a step
     abbrev pub to : Grain PipeRequest PipeReply → DirectionState
     to grain = object_with system d grain
 
+    -- and where the call is
     abbrev pub gone : CallState → Grain PipeRequest PipeReply → CallState
     gone old grain = call_goes_on limit row old (outcome_by grain)
 
@@ -495,7 +504,8 @@ module _ (limit : ℕ) (row : Row) (d : DirectionState) (fits : Fits limit d.kep
       reads_by false grain came = over out grain came
         where
           over : (o : WaitReply ReadAnswer) (grain : Grain PipeRequest PipeReply)
-              → Comes (next_with same HasRead (does_so (reader_rendez row) (Next.Over (Ok o)))) grain
+              → Comes (next_with same HasRead (does_so (reader_rendez row) (Next.Over (Ok o))))
+              grain
               → MovesTo (to grain) waking
               (Reads buffer (goes_so (read_try row buffer) (FillState.Filling 0 None)
               (reader_rendez row) (Next.Over (Ok o))

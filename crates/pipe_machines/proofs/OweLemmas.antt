@@ -1,5 +1,6 @@
 -- Who is to wake somebody does so with its next wakeup, or still is to.
-use Rattle.std.proofs.Common.{◌≡◌, ◌⊎◌, inl, inr, ◌+◌, ◌-◌, ◌<◌, ◌≤◌, ℕ, zero, suc, nat_lt, Bool, true}
+use Rattle.std.proofs.Common.{◌≡◌, ◌⊎◌, inl, inr, ◌+◌, ◌-◌, ◌<◌, ◌≤◌, ℕ, zero, suc, nat_lt, Bool}
+use Rattle.std.proofs.Common.{true}
 use Rattle.std.proofs.Common.{false, if◌then◌else◌, List, length, Some, None, Ok}
 use Rattle.std.proofs.Common.{refl, sym, ◌∙◌, ap, subst, arith}
 use Rattle.std.specs.Prelude.{max, slice_index, slice_set}
@@ -97,7 +98,8 @@ module _ (limit : ℕ) (row : Row) (rendez procs : ℕ) (room : HasRoom row rend
         does_by b =
             if b then Next.Wake (writer_rendez row woken) number else Next.Over (Ok out)
 
-        reads_owe : (b : Bool) → nat_lt woken row.writers ≡ b → (grain : Grain PipeRequest PipeReply)
+        reads_owe : (b : Bool) → nat_lt woken row.writers ≡ b
+            → (grain : Grain PipeRequest PipeReply)
             → Comes (next_with same HasRead (does_so (reader_rendez row) (does_by b))) grain
             → (level ≤ slice_index (levels_by levels
             (next_with same HasRead (does_so (reader_rendez row) (does_by b))) grain)
@@ -194,6 +196,7 @@ module _ (limit : ℕ) (row : Row) (rendez procs : ℕ) (room : HasRoom row rend
           (after_part row (length buffer) found_of count (Some number) t)))) (sym told_is)
           (low, enough)
 
+      -- who is to wake it has woken it after a step, or still is to
       pub owes_on : (old : CallState) (grain : Grain PipeRequest PipeReply)
           → WaitsRightly limit d old → Comes (call_does limit row old) grain
           → level_due (after grain).kept i ≡ level → IsToWake i level old → Owes old grain

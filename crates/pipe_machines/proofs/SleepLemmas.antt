@@ -1,6 +1,7 @@
 -- Who sleeps at a direction: in which Rendez and with what number, and what it asks after that.
 use Rattle.std.proofs.Common.{◌≡◌, ◌+◌, ◌<◌, ◌≤◌, ◌∷◌, ℕ, suc, nat_lt, Bool}
-use Rattle.std.proofs.Common.{true, false, if◌then◌else◌, List, [], length, take, Option, Some, None}
+use Rattle.std.proofs.Common.{true, false, if◌then◌else◌, List, [], length, take, Option, Some}
+use Rattle.std.proofs.Common.{None}
 use Rattle.std.proofs.Common.{Ok, Err, refl, sym, ◌∙◌, ap, subst, arith}
 use Rattle.std.specs.Prelude.{⊤}
 use Rattle.sync_base.specs.declared.ids.RendezId.{RendezId}
@@ -71,7 +72,9 @@ module _ (limit : ℕ) (row : Row) where
   -- its try told it to wait
   pub record FillSleeps (buffer : List ℕ) (at : FillState (WaitReply ReadAnswer)) (there : RendezId)
       (number : ℕ) : Type 0 where
+    -- this was its answer
     pub told : fill_does row (length buffer) found_of at ≡ Next.Over (Ok (reply.Wait number))
+    -- and it sleeps in the reader's Rendez
     pub its_own : there ≡ reader_rendez row
 
   -- by what it does where it wakes the writers
@@ -79,6 +82,7 @@ module _ (limit : ℕ) (row : Row) where
     abbrev does_by : Bool → Next PipeRequest (WaitReply ReadAnswer)
     does_by b = if b then Next.Wake (writer_rendez row woken) waked else Next.Over (Ok out)
 
+    -- it sleeps only after the last of them
     pub sleeps_by : (b : Bool)
         → next_with same HasRead (does_so (reader_rendez row) (does_by b))
         ≡ Next.Sleep there number
@@ -98,6 +102,7 @@ module _ (limit : ℕ) (row : Row) where
         over (reply.Done o) is = absurd cc
         over (reply.Refused why) is = absurd cc
 
+  -- a read that sleeps was told to
   pub fill_sleeps : (buffer : List ℕ) (at : FillState (WaitReply ReadAnswer)) (there : RendezId)
       (number : ℕ) → does (Reads buffer (TryState.Tries at)) ≡ Next.Sleep there number
       → FillSleeps buffer at there number
@@ -150,6 +155,7 @@ module _ (limit : ℕ) (row : Row) where
 
   -- ---- who sleeps
 
+  -- a call that sleeps does so where it can be woken
   pub record SleepsRightly (d : DirectionState) (pid : ℕ) (there : RendezId) (number : ℕ)
       (call : CallState) : Type 0 where
     -- in the Rendez of its process
@@ -159,6 +165,7 @@ module _ (limit : ℕ) (row : Row) where
     -- and below the greatest level
     pub low : number < TOP_LEVEL
 
+  -- each call that sleeps
   pub sleeps_rightly : (d : DirectionState) → Fits limit d.kept → (pid : ℕ) (there : RendezId)
       (number : ℕ) (call : CallState) → IsBy pid call → WaitsRightly limit d call
       → does call ≡ Next.Sleep there number → SleepsRightly d pid there number call
@@ -223,7 +230,8 @@ module _ (limit : ℕ) (row : Row) where
       never true is = cc
       never false is = cc
   sleeps_rightly d fits pid there number
-      (Writes writer bytes (TryState.Tries (PutState.Told (reply.Done n)))) by rightly is = absurd cc
+      (Writes writer bytes (TryState.Tries (PutState.Told (reply.Done n)))) by rightly is =
+      absurd cc
   sleeps_rightly d fits pid there number
       (Writes writer bytes (TryState.Tries (PutState.Told (reply.Refused why)))) by rightly is =
       absurd cc
@@ -246,6 +254,7 @@ module _ (limit : ℕ) (row : Row) where
     IsAWakeup (Next.Ask request) = ⊤
     IsAWakeup other = ⊥
 
+    -- who is to wake somebody asks or wakes next
     pub wakes_next_so : (call : CallState) → IsToWake i level call → IsAWakeup (does call)
     wakes_next_so (Writes writer bytes (TryState.Tries (PutState.Standing number))) wake = tt
     wakes_next_so (Writes writer bytes (TryState.Tries (PutState.WakingReader number))) wake = tt
@@ -288,6 +297,7 @@ module _ (limit : ℕ) (row : Row) where
     wakes_next_so (Hangs seat HangState.Hanging) wake = absurd wake
     wakes_next_so (Hangs seat HangState.HungAlone) wake = absurd wake
 
+    -- so it has not ended
     pub ended_so : (call : CallState) → IsToWake i level call → HasEnded (does call) → ⊥
     ended_so call wake ended = by (does call) (wakes_next_so call wake) ended
       where
@@ -295,6 +305,7 @@ module _ (limit : ℕ) (row : Row) where
         by (Next.Over answer) wakes ended = wakes
         by other wakes ended = ended
 
+    -- and does not sleep
     pub asleep_so : (call : CallState) (there : RendezId) (number : ℕ) → IsToWake i level call
         → does call ≡ Next.Sleep there number → ⊥
     asleep_so call there number wake is =

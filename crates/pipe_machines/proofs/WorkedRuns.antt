@@ -273,7 +273,8 @@ not_before_it_stands = refl
 where_it_stands : goes_on (left_by one_each (1 ∷ 0 ∷ 1 ∷ [])) reads ≡ true
 where_it_stands = refl
 
-so_of_a_block : goes_on (left_by one_each (1 ∷ 0 ∷ 1 ∷ [])) (Blocks (Tries BlockState.Reading)) ≡ true
+so_of_a_block : goes_on (left_by one_each (1 ∷ 0 ∷ 1 ∷ [])) (Blocks (Tries BlockState.Reading))
+    ≡ true
 so_of_a_block = refl
 
 not_while_it_is_full : goes_on (left_by two_write (1 ∷ 1 ∷ [])) (writes 1 b) ≡ false

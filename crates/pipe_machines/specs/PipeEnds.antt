@@ -1,5 +1,5 @@
--- Who waits at a direction, and who of them would go on: a reader for which a write stands or all is
--- read, and a writer for which there is room or which is refused. So whether a run of the calls
+-- Who waits at a direction, and who of them would go on: a reader for which a write stands or all
+-- is read, and a writer for which there is room or which is refused. So whether a run of the calls
 -- deadlocks is told by the direction, without the levels of its Rendez.
 use Rattle.std.specs.Prelude.{◌≡◌, ℕ, Bool, true, false, Option, List, length}
 use Rattle.block_queue.specs.QueueObject.{put_reply}
@@ -62,8 +62,8 @@ WaitsAskInVain At =
     → AreItsPrograms limit row rendez program starts
     → WaitsAskAgain (calls_in limit row rendez program starts) GoesOn
 
--- If wherever a run at the grain of calls comes to where each process has ended, or waits and has to
--- by the direction, all have ended, no run of the calls deadlocks. Runs need not be looked at in
+-- If wherever a run at the grain of calls comes to where each process has ended, or waits and has
+-- to by the direction, all have ended, no run of the calls deadlocks. Runs need not be looked at in
 -- which a sleep is refused, or a wait ends well before the direction would let the call go on.
 abbrev pub PipeEndsHold : Type 0 → Type 0
 PipeEndsHold At =

@@ -2,7 +2,8 @@
 -- direction is an object that replies to each request. Own: a write that was accepted and does not
 -- stand yet is not read.
 use Rattle.std.specs.Prelude.{◌≡◌, ◌≢◌, ◌≤◌, ◌+◌, ◌==◌, ℕ, Bool, true, false, if◌then◌else◌}
-use Rattle.std.specs.Prelude.{nat_le, List, [], ◌∷◌, length, take, drop, replicate, Option, Some, None}
+use Rattle.std.specs.Prelude.{nat_le, List, [], ◌∷◌, length, take, drop, replicate, Option, Some}
+use Rattle.std.specs.Prelude.{None}
 use Rattle.sync_base.specs.declared.limits.TheConstants.{ATOMIC_SIZE}
 use Rattle.sync_base.specs.Write.{Write}
 use Rattle.block_queue.specs.declared.queue_object.QueueCall.TheVariants as asked
