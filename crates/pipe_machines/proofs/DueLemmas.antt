@@ -26,8 +26,8 @@ use Rattle.call_machines.proofs.CoarseLemmas.{ComesOf, comes_of, each, levels_ri
 use Rattle.call_machines.proofs.CoarseLemmas.{others_now, own_now}
 use Rattle.call_machines.proofs.ProgramLemmas as programs
 use Rattle.pipe_machines.specs.BlockMachine.{BlockState}
-use Rattle.pipe_machines.specs.PipeEnds.{PipeEndsHold, WaitsAskInVain, WakeupsOfPipesAreDue}
-use Rattle.pipe_machines.specs.PipeEnds.{goes_on}
+use Rattle.pipe_machines.specs.PipeEnds.{LeavesUnworn, PipeEndsHold, PipeRestsHold, WaitsAskInVain}
+use Rattle.pipe_machines.specs.PipeEnds.{WakeupsOfPipesAreDue, goes_on}
 use Rattle.pipe_machines.specs.PipeRuns.{BeginsBy, CallOut, CallState, DirectionState, HasRoom}
 use Rattle.pipe_machines.specs.PipeRuns.{call_does, call_goes_on, idle, pipe_calls}
 use Rattle.pipe_machines.specs.PipeRuns.CallState.{Blocks, Hangs, Reads, Writes}
@@ -490,3 +490,12 @@ pipe_ends_hold At limit row rendez program starts are =
     (invariant limit row rendez (length starts) are.room)
     (sym (length-replicate (length starts) idle)) are.begin
     (apart limit row rendez (length starts) are.room)
+
+-- and so of the runs in which no number is worn out
+pub pipe_rests_hold : (At : Type 0) → PipeRestsHold At
+pipe_rests_hold At limit row rendez program starts served are =
+    programs.such_programs_rest (pipe_calls limit row rendez (length starts)) program starts goes_on
+    BeginsBy _ _
+    (invariant limit row rendez (length starts) are.room)
+    (sym (length-replicate (length starts) idle)) are.begin
+    LeavesUnworn served (apart limit row rendez (length starts) are.room)

@@ -7,7 +7,8 @@ use Rattle.pipe_dev.specs.declared.row.Row.{Row}
 use Rattle.call_machines.specs.Ends.{NoRunDeadlocks}
 use Rattle.call_machines.specs.GrainEnds.{WakeupsAreDue}
 use Rattle.call_machines.specs.Programs.{EachBegins, Program, ProgramState, goes_in_call}
-use Rattle.call_machines.specs.Programs.{program_system}
+use Rattle.call_machines.specs.Programs.{program_system, rests_at}
+use Rattle.call_machines.specs.Replies.{SuchStopAtRest, SuchStuckAtRest}
 use Rattle.call_machines.specs.Runs.{System}
 use Rattle.call_machines.specs.StrictRuns.{NeverStrictlyStuck, WaitsAskAgain}
 use Rattle.pipe_machines.specs.PipeRuns.{BeginsBy, CallOut, CallState, DirectionState, HasRoom}
@@ -72,3 +73,25 @@ PipeEndsHold At =
     → AreItsPrograms limit row rendez program starts
     → NeverStrictlyStuck (calls_in limit row rendez program starts) GoesOn
     → NoRunDeadlocks (calls_in limit row rendez program starts)
+
+-- ---- as long as no number of a write is worn out
+
+abbrev pub is_unworn : PipeReply → Bool
+is_unworn PipeReply.Worn = false
+is_unworn other = true
+
+abbrev pub LeavesUnworn : PipeRequest → PipeReply → Type 0
+LeavesUnworn request told = is_unworn told ≡ true
+
+-- The same of runs in which no number is worn out, and where processes may rest at some places, at
+-- which they wait for ever: wherever such a run has stopped, each process has ended, or is in the
+-- call of a place that is served.
+abbrev pub PipeRestsHold : Type 0 → Type 0
+PipeRestsHold At =
+    (limit : ℕ) (row : Row) (rendez : ℕ) (program : Program At CallState CallOut)
+    (starts : List (Option At)) (served : At → Bool)
+    → AreItsPrograms limit row rendez program starts
+    → SuchStuckAtRest (calls_in limit row rendez program starts) LeavesUnworn GoesOn
+    (λ state. rests_at served state ≡ true)
+    → SuchStopAtRest (calls_in limit row rendez program starts) LeavesUnworn
+    (λ state. rests_at served state ≡ true)

@@ -3,7 +3,12 @@
 ghost use Rattle.pipe_machines.specs.BlockMachine.{BlockReadsArePlays};
 ghost use Rattle.pipe_machines.specs.HangMachine.{ReadHangupsArePlays, WriteHangupsArePlays};
 ghost use Rattle.pipe_machines.specs.LongMachine.{LongWritesArePlays};
-ghost use Rattle.pipe_machines.specs.PipeEnds.{PipeEndsHold, WaitsAskInVain, WakeupsOfPipesAreDue};
+ghost use Rattle.pipe_machines.specs.PipeEnds.{
+  PipeEndsHold,
+  PipeRestsHold,
+  WaitsAskInVain,
+  WakeupsOfPipesAreDue,
+};
 ghost use Rattle.pipe_machines.specs.ReadMachine.{ReadsArePlays, TriesArePlays};
 ghost use Rattle.pipe_machines.specs.WriteMachine.{WritesArePlays};
 
@@ -27,8 +32,8 @@ pub fn reads_are_plays()
     ensures blocks { BlockReadsArePlays }
 {}
 
-/// A long write is as its contract says if and only if its machine plays so, as many blocks as
-/// there is memory for.
+/// A long write is as its contract says if and only if its machine plays so, with memory for all of
+/// its blocks or for some.
 pub fn long_writes_are_plays()
     ensures { LongWritesArePlays }
 {}
@@ -37,9 +42,11 @@ pub fn long_writes_are_plays()
 /// before that asks in vain. So no run of the calls deadlocks, if in each run at the grain of calls
 /// that comes to where each process has ended, or waits and has to by the direction, all have
 /// ended. Runs need not be looked at in which a sleep is refused, or a wait ends well before the
-/// direction would let the call go on.
+/// direction would let the call go on. The same holds of the runs in which no number of a write is
+/// worn out, and where processes may rest at some places.
 pub fn pipes_wakeups_are_due<P>()
     ensures due { WakeupsOfPipesAreDue P }
     ensures vain { WaitsAskInVain P }
     ensures ends { PipeEndsHold P }
+    ensures unworn { PipeRestsHold P }
 {}
