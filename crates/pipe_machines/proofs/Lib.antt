@@ -16,3 +16,4 @@ pub mod WakingLemmas
 mod WorkedLong
 mod WorkedRows
 pub mod WorkedRuns
+mod WorkedServer
