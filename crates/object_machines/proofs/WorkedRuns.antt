@@ -1,7 +1,7 @@
 -- Runs of calls at two semaphores and a tag space, computed: a wait at one object that ends by a
 -- call at it, and deadlocks across two objects.
 use Rattle.std.proofs.Common.{◌≡◌, ◌≢◌, ◌≤◌, ◌<◌, inl, inr, ℕ, zero, suc, true, false, Option, Some}
-use Rattle.std.proofs.Common.{None, List, [], ◌∷◌, Ok, Result, refl, arith}
+use Rattle.std.proofs.Common.{Bool, None, List, [], ◌∷◌, Ok, Result, refl, arith}
 use Rattle.std.proofs.lemmas.Bool.{false≢true}
 use Rattle.kernel_lock.specs.declared.locked.Locked.{Locked}
 use Rattle.kernel_lock.specs.Seats.{limit_of, opening_of}
