@@ -49,7 +49,9 @@ use Rattle.object_machines.specs.ObjectCalls.ObjectReply.{BySema, BySpace, Chose
 use Rattle.object_machines.specs.ObjectCalls.ObjectRequest.{AtChoices, OfSema, OfSpace}
 use Rattle.object_machines.specs.ObjectCalls.{object_calls}
 use Rattle.object_machines.specs.OwnCalls.ChoiceState.{Choosing, HasChosen}
-use Rattle.object_machines.specs.OwnCalls.OwnState.{Done, Draining}
+use Rattle.object_machines.specs.OwnCalls.OwnState.{Done, Draining, Posting}
+use Rattle.sync_base.specs.declared.note.Note.TheVariants.{Interrupt}
+use Rattle.sync_base.specs.NoteSet.{no_notes, only}
 use Rattle.object_machines.specs.ObjectEnds.{is_unworn}
 use Rattle.object_machines.specs.ObjectEnds.{AreApart, AreInOneWorld, BeginsBy, GoesOn, IsSemaHere}
 use Rattle.object_machines.specs.ObjectEnds.{calls_at, goes_on, sema_row, space_row}
@@ -266,6 +268,30 @@ module _ (lock : Locked SemaState SemaCall SemaReply)
   a_choice_is_used_up : (position_of (chooses_with (true ∷ false ∷ [])) (0 ∷ 0 ∷ [])).object.choices
       ≡ false ∷ []
   a_choice_is_used_up = refl
+
+  -- the first posts a note to the second, which takes it
+  abbrev posts_and_drains : ℕ → ObjectCall
+  posts_and_drains zero = Alone (Posting (record { 0 = 1 }) (only Interrupt))
+  posts_and_drains place = Alone Draining
+
+  abbrev note_is_taken : System (ProgramState ℕ ObjectCall) ObjectRequest ObjectReply Unit
+      ObjectStates
+  note_is_taken =
+      calls_at (objects_with 1 0)
+      (record { call = posts_and_drains; next = λ place answer. None }) (Some 0 ∷ Some 1 ∷ [])
+
+  both_are_done : (position_of note_is_taken (1 ∷ 0 ∷ [])).states ≡ Ended ∷ Ended ∷ []
+  both_are_done = refl
+
+  its_note_is_pending :
+      (coarse_of note_is_taken (moves_of note_is_taken (run_of note_is_taken (0 ∷ [])))).notes
+      ≡ no_notes ∷ only Interrupt ∷ []
+  its_note_is_pending = refl
+
+  then_it_is_taken :
+      (coarse_of note_is_taken (moves_of note_is_taken (run_of note_is_taken (1 ∷ 0 ∷ [])))).notes
+      ≡ no_notes ∷ no_notes ∷ []
+  then_it_is_taken = refl
 
   -- such a call begins, and is not over
   a_drain_begins : BeginsBy (objects_with 1 0) 0 (Alone Draining)
