@@ -265,7 +265,8 @@ module _ {At Request Reply Out Object : Type 0} (system : System At Request Repl
           both grain
           (loosely system now.object (notes_of system now pid)
           (system.machine.does (at_of system now pid)) grain
-          (may_now (system.machine.does (at_of system now pid)) grain (subst (λ (a : At). May system at.object (notes_of system at pid)
+          (may_now (system.machine.does (at_of system now pid)) grain
+          (subst (λ (a : At). May system at.object (notes_of system at pid)
           (system.machine.does a) grain) same may)))
           unrefused strict heard
           (IsSame (ap (λ (a : At). system.machine.goes_on a (outcome_by grain)) same))
@@ -308,7 +309,8 @@ module _ {At Request Reply Out Object : Type 0} (system : System At Request Repl
           }))
       asleep_step (Noted set) one may unrefused =
           both (Noted set)
-          (may_now (system.machine.does (at_of system now pid)) (Noted set) (one.rendez, one.other_number, one.other_sleeps, may.3, may.4))
+          (may_now (system.machine.does (at_of system now pid)) (Noted set)
+          (one.rendez, one.other_number, one.other_sleeps, may.3, may.4))
           tt tt tt (IsSame (one.alike (Err (fault.Interrupted set))))
       asleep_step (Refused why) one may unrefused = absurd unrefused
       asleep_step (Heard request reply) one may unrefused =
@@ -501,7 +503,8 @@ module _ {At Request Reply Out Object : Type 0} (system : System At Request Repl
         by (IsSame same) (inr on) =
             inr (waits on.rendez on.number (sym (ap system.machine.does same) ∙ on.does)
             (λ o goes. subst (Goes o) (sym same) goes) on)
-        by (IsOneWait one alike) (inl ends) = absurd (not_over _ one.rendez one.number one.sleeps ends)
+        by (IsOneWait one alike) (inl ends) =
+            absurd (not_over _ one.rendez one.number one.sleeps ends)
         by (IsOneWait one alike) (inr on) =
             inr (waits one.rendez one.other_number one.other_sleeps one.go on)
         by (WasEarly early) (inl ends) = absurd (subst HasEnded (asks_on early).1 ends)
