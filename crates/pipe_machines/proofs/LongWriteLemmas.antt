@@ -155,6 +155,14 @@ module _ (long : WriteCall) (words : Words) (first : Writer) where
           comes = comes;
           last = λ n same. let both = sym over ∙ same in absurd cc;
         }
+    says_in block others taken count at now done between is comes (Next.Post pid set) over =
+        record {
+          done = done;
+          between = between;
+          is = is;
+          comes = comes;
+          last = λ n same. let both = sym over ∙ same in absurd cc;
+        }
     says_in block others taken count at now done between is comes Next.Drain over =
         record {
           done = done;
@@ -173,6 +181,7 @@ module _ (long : WriteCall) (words : Words) (first : Writer) where
     done_in block taken (Next.Sleep rendez number) (Outcome.Slept (Err why)) old new done = done
     done_in block taken (Next.Wake rendez level) Outcome.Went old new done = done
     done_in block taken (Next.Return set) Outcome.Went old new done = done
+    done_in block taken (Next.Post pid set) Outcome.Went old new done = done
     done_in block taken Next.Drain (Outcome.Took set) old new done = done
     done_in block taken (Next.Over (Ok number)) came old new done = absurd done
     done_in block taken (Next.Over (Err why)) came old new done = absurd done
@@ -317,6 +326,11 @@ module _ (long : WriteCall) (words : Words) (first : Writer) where
           (subst (λ (n : Next PipeRequest ℕ). HasDone Serves (long_next block taken n) Outcome.Went
           old new) (sym is) done)
       one_step block others taken count at Outcome.Went old new (Next.Return set) is comes done =
+          more Serves (long_machine long memory) start first (Writing block others taken count at)
+          Outcome.Went old new comes
+          (subst (λ (n : Next PipeRequest ℕ). HasDone Serves (long_next block taken n) Outcome.Went
+          old new) (sym is) done)
+      one_step block others taken count at Outcome.Went old new (Next.Post pid set) is comes done =
           more Serves (long_machine long memory) start first (Writing block others taken count at)
           Outcome.Went old new comes
           (subst (λ (n : Next PipeRequest ℕ). HasDone Serves (long_next block taken n) Outcome.Went

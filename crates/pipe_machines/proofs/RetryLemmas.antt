@@ -209,6 +209,10 @@ module _ {State Request Reply Out Seat : Type 0}
         tries_on at Outcome.Went old new says
         (subst (λ (n : Next Request (WaitReply Out)). HasDone Serves n Outcome.Went old new)
         (sym is) done)
+    step_in at Outcome.Went old new says (Next.Post pid set) is done =
+        tries_on at Outcome.Went old new says
+        (subst (λ (n : Next Request (WaitReply Out)). HasDone Serves n Outcome.Went old new)
+        (sym is) done)
     step_in at (Outcome.Took set) old new says Next.Drain is done =
         tries_on at (Outcome.Took set) old new says
         (subst (λ (n : Next Request (WaitReply Out)). HasDone Serves n (Outcome.Took set) old new)
@@ -307,6 +311,8 @@ module _ {State Request Reply Out Seat : Type 0}
         as_one at Outcome.Went old new comes (Next.Wake other level) is done
     one_more at Outcome.Went old new comes (Next.Return set) is done =
         as_one at Outcome.Went old new comes (Next.Return set) is done
+    one_more at Outcome.Went old new comes (Next.Post pid set) is done =
+        as_one at Outcome.Went old new comes (Next.Post pid set) is done
     one_more at (Outcome.Took set) old new comes Next.Drain is done =
         as_one at (Outcome.Took set) old new comes Next.Drain is done
     one_more at came old new comes does is done = absurd done

@@ -28,6 +28,7 @@ long_next block taken (Next.Ask request) = Next.Ask request
 long_next block taken (Next.Sleep rendez number) = Next.Sleep rendez number
 long_next block taken (Next.Wake rendez level) = Next.Wake rendez level
 long_next block taken (Next.Return set) = Next.Return set
+long_next block taken (Next.Post pid set) = Next.Post pid set
 long_next block taken Next.Drain = Next.Drain
 long_next block taken (Next.Over (Ok number)) =
     Next.Over (Ok (record { taken = taken + length block; fault = None }))

@@ -29,6 +29,7 @@ does_so rendez (Next.Ask request) = Next.Ask request
 does_so rendez (Next.Sleep other number) = Next.Sleep other number
 does_so rendez (Next.Wake other level) = Next.Wake other level
 does_so rendez (Next.Return set) = Next.Return set
+does_so rendez (Next.Post pid set) = Next.Post pid set
 does_so rendez Next.Drain = Next.Drain
 does_so rendez (Next.Over (Ok told)) = told_so rendez told
 does_so rendez (Next.Over (Err why)) = Next.Over (Err why)
