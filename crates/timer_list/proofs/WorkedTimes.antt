@@ -89,7 +89,8 @@ module _ (before : Process) where
 
   -- a call to which no notes came posts none
   posts_no_notes :
-      ¬ Kept false no_notes (Answered (Ok tt)) (Ok tt) before (notes before (pid_in before) no_notes)
+      ¬ Kept false no_notes (Answered (Ok tt)) (Ok tt) before
+      (notes before (pid_in before) no_notes)
   posts_no_notes kept = by kept.1
     where
       by : ¬ PutsBackAny no_notes before (notes before (pid_in before) no_notes)
