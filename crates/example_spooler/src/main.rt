@@ -5,9 +5,9 @@
 #![tactic(auto)]
 
 use plan9::{
-    Clock, Ended, Fault, FaultText, Job, Member, Messages, Note, NoteSet, OpenedKernel, Pid, Plan,
-    Proc, QueueEnds, RealTime, Received, RendezId, Roster, Seat, Semaphore, SendCalls, Space,
-    Started, Tag, Team, Told, Watch, Worker, forks,
+    Clock, Ended, Fault, Job, Member, Messages, Note, NoteSet, OpenedKernel, Pid, Plan, Proc,
+    QueueEnds, RealTime, Received, RendezId, Roster, Seat, Semaphore, SendCalls, Space, Started,
+    Tag, Team, Told, Watch, Worker, forks,
 };
 use std::alloc::Global;
 use std::sync::Wait;
@@ -356,11 +356,8 @@ fn run<R: Threads + Wait + Now + Sync>(rt: &R, alloc: Global) -> Totals {
     open(rt, alloc, &mut kernel.start(start))
 }
 
-fn main(rt: HostRuntime) -> std::io::Result<()> {
-    let counts = match run(&rt, rt.alloc()) {
-        Ok(counts) => counts,
-        Err(fault) => return println!(rt; "the spooler failed: {}", FaultText(fault)),
-    };
+fn main(rt: HostRuntime) -> anyhow::Result<()> {
+    let counts = run(&rt, rt.alloc())?;
     let did = ["answered", "handed on", "printed", "cancelled"];
     for (did, Count { documents, pages }) in did.iter().zip(counts) {
         println!(rt; "documents {did}: {documents}, of {pages} pages")?;
