@@ -17,13 +17,14 @@ use Rattle.waiting.specs.declared.call.Reply.{Reply as WaitReply}
 use Rattle.waiting.specs.declared.call.Reply.TheVariants as reply
 use Rattle.call_machines.specs.Devices.{Invariant, IsLater, begun}
 use Rattle.call_machines.specs.Ends.{HasEnded}
-use Rattle.call_machines.specs.Grain.{Coarse, May, Move, at_of, coarse_of, levels_by, moved}
+use Rattle.call_machines.specs.Grain.{Coarse, Move, at_of, coarse_of, levels_by, moved}
 use Rattle.call_machines.specs.Grain.{notes_of, object_with, outcome_by}
 use Rattle.call_machines.specs.GrainEnds.{IsCoarseStuck, WaitsOn}
 use Rattle.call_machines.specs.Machine.{Next}
 use Rattle.call_machines.specs.Runs.{System}
-use Rattle.call_machines.proofs.CoarseLemmas.{ComesOf, comes_of, each, levels_rise, levels_stay}
-use Rattle.call_machines.proofs.CoarseLemmas.{others_now, own_now}
+use Rattle.call_machines.specs.StrictRuns.{MayLoosely}
+use Rattle.call_machines.proofs.CoarseLemmas.{ComesOf, comes_loosely, each, levels_rise}
+use Rattle.call_machines.proofs.CoarseLemmas.{levels_stay, others_now, own_now}
 use Rattle.call_machines.proofs.ProgramLemmas as programs
 use Rattle.pipe_machines.specs.BlockMachine.{BlockState}
 use Rattle.pipe_machines.specs.PipeEnds.{LeavesUnworn, PipeEndsHold, PipeRestsHold, WaitsAskInVain}
@@ -181,7 +182,7 @@ module _ (limit : ℕ) (row : Row) (rendez procs : ℕ) (room : HasRoom row rend
   -- one move more
   module _ (move : Move PipeRequest PipeReply) (at : Coarse system) (due : Due at)
       (low : move.by < procs)
-      (may : May system at.object (notes_of system at move.by)
+      (may : MayLoosely system at.object (notes_of system at move.by)
       (call_does limit row (at_of system at move.by)) move.grain) where
     abbrev old : CallState
     old = at_of system at move.by
@@ -201,8 +202,8 @@ module _ (limit : ℕ) (row : Row) (rendez procs : ℕ) (room : HasRoom row rend
     came : ComesOf system at.object (notes_of system at move.by) (call_does limit row old)
         move.grain
     came =
-        comes_of system at.object (notes_of system at move.by) (call_does limit row old) move.grain
-        may
+        comes_loosely system at.object (notes_of system at move.by) (call_does limit row old)
+        move.grain may
 
     well : MovesTo limit row at.object due.fits object_now old new
     well =
