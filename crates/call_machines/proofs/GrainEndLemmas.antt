@@ -9,7 +9,7 @@ use Rattle.sleep_core.specs.declared.answer.Answer.{Answer}
 use Rattle.sleep_core.specs.declared.answer.Answer.TheVariants as answer
 use Rattle.sleep_core.specs.declared.event.Event.{Event}
 use Rattle.sleep_core.specs.declared.event.Event.TheVariants.{Post, Test, Withdraw, Clear}
-use Rattle.sleep_core.specs.declared.event.Event.TheVariants.{Raise, Take, Mark, Note}
+use Rattle.sleep_core.specs.declared.event.Event.TheVariants.{Drain, Raise, Take, Mark, Note}
 use Rattle.sleep_core.specs.declared.phase.Phase.{Phase}
 use Rattle.sleep_core.specs.declared.phase.Phase.TheVariants as phase
 use Rattle.sleep_core.specs.Laws.{IsSoundIn}
@@ -25,7 +25,7 @@ use Rattle.schedules.specs.Program.{event_in, proc}
 use Rattle.schedules.specs.declared.call.Call.TheVariants as core
 use Rattle.call_machines.specs.Ends.{HasEnded, HasStopped, IsParked}
 use Rattle.call_machines.specs.Grain.{AreMoves, Move, at_of, coarse_of, moves_of}
-use Rattle.call_machines.specs.GrainEnds.{CoarseEndsHold, IsCoarseStuck, ObjectEndsHold, WaitsBy}
+use Rattle.call_machines.specs.GrainEnds.{CoarseRestsHold, IsCoarseStuck, ObjectRestsHold, WaitsBy}
 use Rattle.call_machines.specs.GrainEnds.{WaitsOn}
 use Rattle.call_machines.specs.Machine.{Next}
 use Rattle.call_machines.specs.Runs.{IsOfCalls, Step, System, event_for, own_in, procs, world_at}
@@ -76,7 +76,8 @@ awaited true true true is = absurd cc
 awaited true false wake is = absurd cc
 awaited false cell wake is = absurd cc
 
-below_or : (phases : List Phase) (q : ℕ)
+-- a process has a phase in the world, or is idle
+pub below_or : (phases : List Phase) (q : ℕ)
     → (q < length phases) ⊎ (slice_index_or phases q phase.Idle ≡ phase.Idle)
 below_or [] q = inr refl
 below_or (x ∷ xs) zero = inl (omega arith)
@@ -87,9 +88,9 @@ below_or (x ∷ xs) (suc q) = by (below_or xs q)
     by (inl low) = inl (omega arith)
     by (inr is) = inr is
 
-module _ (s : State) (pid : ℕ) (own : RendezId) where
-  record AsleepSo (number : ℕ) : Type 0 where
-    at : phase_of s pid ≡ phase.Asleep own number
+module _ (s : State) (pid : ℕ) where
+  record AsleepSo (rendez : RendezId) (number : ℕ) : Type 0 where
+    at : phase_of s pid ≡ phase.Asleep rendez number
     unmarked : (flags_of s pid).wake ≡ false
     none : has_notes (flags_of s pid).notes ≡ false
 
@@ -99,9 +100,10 @@ module _ (s : State) (pid : ℕ) (own : RendezId) where
 
   -- who is parked is asleep without mark and notes, or awaits a mark that is not there
   record ParkedSo {Request Out : Type 0} (n : Next Request Out) : Type 0 where
+    rendez : RendezId
     number : ℕ
-    does : n ≡ Next.Sleep number
-    how : AsleepSo number ⊎ AwaitingSo
+    does : n ≡ Next.Sleep rendez number
+    how : AsleepSo rendez number ⊎ AwaitingSo
 
   abbrev said_in : Phase → Event → Answer
   said_in stage event =
@@ -114,22 +116,23 @@ module _ (s : State) (pid : ℕ) (own : RendezId) where
       never (nat_lt pid (length s.phases)) (has_cell s (cell_of event stage))
       (reply event stage (word_at s (cell_of event stage)))
 
-  by_sleep : {Request Out : Type 0} (number : ℕ) (stage : Phase) → phase_of s pid ≡ stage
-      → InSleepPhase own number stage
+  by_sleep : {Request Out : Type 0} (own : RendezId) (number : ℕ) (stage : Phase)
+      → phase_of s pid ≡ stage → InSleepPhase own number stage
       → said_in stage (event_in pid stage (core.Sleep own number)) ≡ answer.Parked
-      → ParkedSo {Request = Request} {Out = Out} (Next.Sleep number)
-  by_sleep number phase.Idle at fits is =
+      → ParkedSo {Request = Request} {Out = Out} (Next.Sleep own number)
+  by_sleep own number phase.Idle at fits is =
       absurd (never_in phase.Idle (Post (proc pid) own number)
       (if_not (number == TOP_LEVEL) answer.BadLevel
       (if posted_of s own.0 == nobody then answer.Posted else answer.DoubleSleep) refl
       (if_not (posted_of s own.0 == nobody) answer.Posted answer.DoubleSleep refl refl)) is)
-  by_sleep number (phase.Posted r t) at fits is =
+  by_sleep own number (phase.Posted r t) at fits is =
       absurd (never_in (phase.Posted r t) (Test (proc pid))
       (if_not (nat_lt t (level_of s r.0)) answer.Leaving answer.Asleep refl refl) is)
-  by_sleep number (phase.Asleep r t) at fits is =
+  by_sleep own number (phase.Asleep r t) at fits is =
       let both = looked (nat_lt pid (length s.phases)) (nat_lt pid (length s.flags))
       (flags_of s pid).wake (has_notes (flags_of s pid).notes) is in
       record {
+        rendez = own;
         number = number;
         does = refl;
         how = inl (record {
@@ -139,11 +142,12 @@ module _ (s : State) (pid : ℕ) (own : RendezId) where
           none = both.1;
         });
       }
-  by_sleep number (phase.Leaving r) at fits is =
+  by_sleep own number (phase.Leaving r) at fits is =
       absurd (never_in (phase.Leaving r) (Withdraw (proc pid))
       (if_not (posted_of s r.0 == posted_as pid) answer.Out answer.Awaiting refl refl) is)
-  by_sleep number phase.Awaiting at fits is =
+  by_sleep own number phase.Awaiting at fits is =
       record {
+        rendez = own;
         number = number;
         does = refl;
         how = inr (record {
@@ -152,16 +156,16 @@ module _ (s : State) (pid : ℕ) (own : RendezId) where
               (flags_of s pid).wake is;
         });
       }
-  by_sleep number phase.Woken at fits is =
+  by_sleep own number phase.Woken at fits is =
       absurd (never_in phase.Woken (Clear (proc pid))
       (if_not (has_notes (flags_of s pid).notes) (answer.Interrupted (flags_of s pid).notes)
       answer.Cleared refl refl) is)
-  by_sleep number phase.Out at fits is =
+  by_sleep own number phase.Out at fits is =
       absurd (never_in phase.Out (Clear (proc pid))
       (if_not (has_notes (flags_of s pid).notes) (answer.Interrupted (flags_of s pid).notes)
       answer.Cleared refl refl) is)
-  by_sleep number (phase.Owing r l) at fits is = absurd fits
-  by_sleep number (phase.Holding q r l) at fits is = absurd fits
+  by_sleep own number (phase.Owing r l) at fits is = absurd fits
+  by_sleep own number (phase.Holding q r l) at fits is = absurd fits
 
   by_wake : (rendez : RendezId) (level : ℕ) (stage : Phase) → InWakePhase rendez level stage
       → said_in stage (event_in pid stage (core.Wakeup rendez level)) ≡ answer.Parked → ⊥
@@ -183,17 +187,17 @@ module _ (s : State) (pid : ℕ) (own : RendezId) where
       ∙ (ap (λ (m : ℕ). if nat_lt m (length s.phases) then answer_in s (phase_of s m) event
       else answer.NoProc) (sym same) ∙ told)
 
-  sleep_made : (stage : Phase) (number : ℕ)
+  sleep_made : (stage : Phase) (own : RendezId) (number : ℕ)
       → (pid_of (event_in pid stage (core.Sleep own number))).0 ≡ pid
-  sleep_made phase.Idle number = refl
-  sleep_made (phase.Posted r t) number = refl
-  sleep_made (phase.Asleep r t) number = refl
-  sleep_made (phase.Leaving r) number = refl
-  sleep_made phase.Awaiting number = refl
-  sleep_made phase.Woken number = refl
-  sleep_made phase.Out number = refl
-  sleep_made (phase.Owing r l) number = refl
-  sleep_made (phase.Holding q r l) number = refl
+  sleep_made phase.Idle own number = refl
+  sleep_made (phase.Posted r t) own number = refl
+  sleep_made (phase.Asleep r t) own number = refl
+  sleep_made (phase.Leaving r) own number = refl
+  sleep_made phase.Awaiting own number = refl
+  sleep_made phase.Woken own number = refl
+  sleep_made phase.Out own number = refl
+  sleep_made (phase.Owing r l) own number = refl
+  sleep_made (phase.Holding q r l) own number = refl
 
   wake_made : (stage : Phase) (rendez : RendezId) (level : ℕ)
       → (pid_of (event_in pid stage (core.Wakeup rendez level))).0 ≡ pid
@@ -207,13 +211,22 @@ module _ (s : State) (pid : ℕ) (own : RendezId) where
   wake_made (phase.Owing r l) rendez level = refl
   wake_made (phase.Holding q r l) rendez level = refl
 
+  -- a note is never answered that its process is parked
+  note_parks : (there cell : Bool)
+      → (if there then (if cell then answer.Noted else answer.NoRendez) else answer.NoProc)
+      ≡ answer.Parked → ⊥
+  note_parks true true is = cc
+  note_parks true false is = cc
+  note_parks false cell is = cc
+
   parked_so : {Request Out : Type 0} (n : Next Request Out) (stage : Phase) (event : Event)
-      → phase_of s pid ≡ stage → InPhase own n stage → event_for pid own stage n ≡ Some event
+      → phase_of s pid ≡ stage → InPhase n stage → event_for pid stage n ≡ Some event
       → answer_to s event ≡ answer.Parked → ParkedSo n
-  parked_so (Next.Sleep number) stage event at fits is told =
+  parked_so (Next.Sleep own number) stage event at fits is told =
       let same : event_in pid stage (core.Sleep own number) ≡ event = cc in
-      by_sleep number stage at fits (answered stage (event_in pid stage (core.Sleep own number)) at
-      (sleep_made stage number) (ap (answer_to s) same ∙ told))
+      by_sleep own number stage at fits
+      (answered stage (event_in pid stage (core.Sleep own number)) at
+      (sleep_made stage own number) (ap (answer_to s) same ∙ told))
   parked_so (Next.Wake rendez level) stage event at fits is told =
       let same : event_in pid stage (core.Wakeup rendez level) ≡ event = cc in
       absurd (by_wake rendez level stage fits
@@ -225,6 +238,18 @@ module _ (s : State) (pid : ℕ) (own : RendezId) where
       = ap (λ (p : Phase). event_in pid p (core.Note (proc pid) set)) (sym fits) ∙ same in
       absurd (never_in phase.Idle (Note (proc pid) set) refl
       (answered phase.Idle (Note (proc pid) set) (at ∙ fits) refl (ap (answer_to s) idle ∙ told)))
+  parked_so (Next.Post to set) stage event at fits is told =
+      let same : event_in pid stage (core.Note to set) ≡ event = cc in
+      let idle : event_in pid phase.Idle (core.Note to set) ≡ event
+      = ap (λ (p : Phase). event_in pid p (core.Note to set)) (sym fits) ∙ same in
+      absurd (note_parks (nat_lt to.0 (length s.phases)) (nat_lt to.0 (length s.flags))
+      (ap (answer_to s) idle ∙ told))
+  parked_so Next.Drain stage event at fits is told =
+      let same : event_in pid stage core.Drain ≡ event = cc in
+      let idle : event_in pid phase.Idle core.Drain ≡ event
+      = ap (λ (p : Phase). event_in pid p core.Drain) (sym fits) ∙ same in
+      absurd (never_in phase.Idle (Drain (proc pid)) refl
+      (answered phase.Idle (Drain (proc pid)) (at ∙ fits) refl (ap (answer_to s) idle ∙ told)))
   parked_so other stage event at fits is told = absurd cc
 
 -- ---- a run that has stopped
@@ -256,11 +281,11 @@ module _ {At Request Reply Out Object : Type 0} (system : System At Request Repl
         (subst (λ (w : State). IsInSleep (phase_of w pid)) core_is.world in_sleep))
 
     parked_at : (pid : ℕ)
-        → IsParked s (event_for pid (system.own pid) (own_in system pid run).stage
+        → IsParked s (event_for pid (own_in system pid run).stage
         (system.machine.does (own_in system pid run).at))
-        → ParkedSo s pid (system.own pid) (system.machine.does (own_in system pid run).at)
+        → ParkedSo s pid (system.machine.does (own_in system pid run).at)
     parked_at pid parked =
-        parked_so s pid (system.own pid) (system.machine.does (own_in system pid run).at)
+        parked_so s pid (system.machine.does (own_in system pid run).at)
         (own_in system pid run).stage parked.0 (stage_is system run of pid) (fine.phases pid)
         parked.1 parked.2
 
@@ -268,16 +293,16 @@ module _ {At Request Reply Out Object : Type 0} (system : System At Request Repl
     no_raiser : (pid q : ℕ) → IsHolding pid (phase_of s q) → ⊥
     no_raiser pid q holds = by (below_or s.phases q)
       where
-        ended : (n : Next Request Out) → InPhase (system.own q) n (own_in system q run).stage
+        ended : (n : Next Request Out) → InPhase n (own_in system q run).stage
             → HasEnded n → ⊥
         ended (Next.Over answer) fits over =
             subst (IsHolding pid) (stage_is system run of q ∙ fits) holds
         ended n fits over = absurd over
 
-        parked : (n : Next Request Out) → ParkedSo s q (system.own q) n → ⊥
+        parked : (n : Next Request Out) → ParkedSo s q n → ⊥
         parked n so = how so.how
           where
-            how : AsleepSo s q (system.own q) so.number ⊎ AwaitingSo s q (system.own q) → ⊥
+            how : AsleepSo s q so.rendez so.number ⊎ AwaitingSo s q → ⊥
             how (inl asleep) = subst (IsHolding pid) asleep.at holds
             how (inr awaiting) = subst (IsHolding pid) awaiting.at holds
 
@@ -286,7 +311,7 @@ module _ {At Request Reply Out Object : Type 0} (system : System At Request Repl
         by (inl low) = which (stopped q (subst (λ (m : ℕ). q < m) sound.procs_stay low))
           where
             which : HasEnded (system.machine.does (own_in system q run).at)
-                ⊎ IsParked s (event_for q (system.own q) (own_in system q run).stage
+                ⊎ IsParked s (event_for q (own_in system q run).stage
                 (system.machine.does (own_in system q run).at))
                 → ⊥
             which (inl over) =
@@ -294,23 +319,23 @@ module _ {At Request Reply Out Object : Type 0} (system : System At Request Repl
             which (inr is) = parked (system.machine.does (own_in system q run).at) (parked_at q is)
 
     -- who is asleep is below no wakeup that has returned
-    is_low : (pid number : ℕ) → AsleepSo s pid (system.own pid) number
-        → returned_of s (system.own pid).0 ≤ number
-    is_low pid number asleep = by there.place there.is_there
+    is_low : (pid : ℕ) (own : RendezId) (number : ℕ) → AsleepSo s pid own number
+        → returned_of s own.0 ≤ number
+    is_low pid own number asleep = by there.place there.is_there
       where
         there : IsInOnePlace s pid
         there = place_of pid (subst IsInSleep (sym asleep.at) tt)
 
-        by : (place : Place) → IsAt s pid place → returned_of s (system.own pid).0 ≤ number
+        by : (place : Place) → IsAt s pid place → returned_of s own.0 ≤ number
         by (IsPostedIn rendez) posted =
-            let same : (system.own pid).0 ≡ rendez
+            let same : own.0 ≡ rendez
             = subst (MayBePosted rendez) asleep.at (words.posted pid rendez posted) in
-            words.asleep pid (system.own pid) number asleep.at (ap (posted_of s) same ∙ posted)
+            words.asleep pid own number asleep.at (ap (posted_of s) same ∙ posted)
         by (IsHeldBy raiser) holds = absurd (no_raiser pid raiser holds)
         by IsMarked marked = absurd (let not = asleep.unmarked in cc)
         by IsOut out = absurd (let at = asleep.at in cc)
 
-    no_waiter : (pid : ℕ) → AwaitingSo s pid (system.own pid) → ⊥
+    no_waiter : (pid : ℕ) → AwaitingSo s pid → ⊥
     no_waiter pid awaiting = by there.place there.is_there
       where
         there : IsInOnePlace s pid
@@ -327,34 +352,35 @@ module _ {At Request Reply Out Object : Type 0} (system : System At Request Repl
     pub is_stuck : IsCoarseStuck system (coarse_of system (moves_of system run))
     is_stuck pid low = by (stopped pid low)
       where
-        waits : (so : ParkedSo s pid (system.own pid)
+        waits : (so : ParkedSo s pid
             (system.machine.does (own_in system pid run).at))
-            → AsleepSo s pid (system.own pid) so.number
+            → AsleepSo s pid so.rendez so.number
             → WaitsOn system (coarse_of system (moves_of system run)) pid
         waits so asleep =
             record {
+              rendez = so.rendez;
               number = so.number;
               does = ap system.machine.does (fine.coarse.states pid) ∙ so.does;
               none = ap has_notes (fine.coarse.notes pid) ∙ asleep.none;
               low =
-                  let row : (system.own pid).0 < length s.posted =
+                  let row : so.rendez.0 < length s.posted =
                   subst (IsPhaseIn (length s.phases) (length s.posted)) asleep.at
                   (sound.sound.whole.phases pid) in
-                  let old = fine.coarse.levels (system.own pid).0
-                  (subst (λ (m : ℕ). (system.own pid).0 < m) sound.rendez_stay row) in
-                  let new = is_low pid so.number asleep in
+                  let old = fine.coarse.levels so.rendez.0
+                  (subst (λ (m : ℕ). so.rendez.0 < m) sound.rendez_stay row) in
+                  let new = is_low pid so.rendez so.number asleep in
                   omega arith;
             }
 
-        how : (so : ParkedSo s pid (system.own pid)
+        how : (so : ParkedSo s pid
             (system.machine.does (own_in system pid run).at))
-            → AsleepSo s pid (system.own pid) so.number ⊎ AwaitingSo s pid (system.own pid)
+            → AsleepSo s pid so.rendez so.number ⊎ AwaitingSo s pid
             → WaitsOn system (coarse_of system (moves_of system run)) pid
         how so (inl asleep) = waits so asleep
         how so (inr awaiting) = absurd (no_waiter pid awaiting)
 
         by : HasEnded (system.machine.does (own_in system pid run).at)
-            ⊎ IsParked s (event_for pid (system.own pid) (own_in system pid run).stage
+            ⊎ IsParked s (event_for pid (own_in system pid run).stage
             (system.machine.does (own_in system pid run).at))
             → HasEnded (system.machine.does
             (at_of system (coarse_of system (moves_of system run)) pid))
@@ -366,20 +392,21 @@ module _ {At Request Reply Out Object : Type 0} (system : System At Request Repl
 
 -- ---- the law
 
--- if no run at the grain of calls deadlocks, no run of the calls does
-pub coarse_ends_hold : {At Request Reply Out Object : Type 0}
-    (system : System At Request Reply Out Object) → CoarseEndsHold system
-coarse_ends_hold system never run of stopped pid low =
+-- where each process rests at a coarse position in which nobody goes on, it rests in a run
+pub coarse_rests_hold : {At Request Reply Out Object : Type 0}
+    (system : System At Request Reply Out Object) (Rests : At → Type 0)
+    → CoarseRestsHold system Rests
+coarse_rests_hold system Rests never run of stopped pid low =
     let fine = fine_run system run of in
-    subst (λ x. HasEnded (system.machine.does x)) (fine.coarse.states pid)
+    subst Rests (fine.coarse.states pid)
     (never (moves_of system run) fine.are (is_stuck system run of stopped) pid low)
 
--- nor where the object says who may go on, and its wakeups are due
-pub object_ends_hold : {At Request Reply Out Object : Type 0}
-    (system : System At Request Reply Out Object) (Goes : Object → ℕ → Type 0)
-    → ObjectEndsHold system Goes
-object_ends_hold {Request = Request} {Reply = Reply} system Goes due never =
-    coarse_ends_hold system (λ moves are stuck.
+-- and where the object says who may go on, and its wakeups are due
+pub object_rests_hold : {At Request Reply Out Object : Type 0}
+    (system : System At Request Reply Out Object) (Goes : Object → At → Type 0)
+    (Rests : At → Type 0) → ObjectRestsHold system Goes Rests
+object_rests_hold {Request = Request} {Reply = Reply} system Goes Rests due never =
+    coarse_rests_hold system Rests (λ moves are stuck.
     never moves are (λ pid low. waits moves are stuck pid low (stuck pid low)))
   where
     waits : (moves : List (Move Request Reply)) → AreMoves system moves
@@ -391,6 +418,7 @@ object_ends_hold {Request = Request} {Reply = Reply} system Goes due never =
     waits moves are stuck pid low (inl over) = inl over
     waits moves are stuck pid low (inr on) =
         inr (record {
+          rendez = on.rendez;
           number = on.number;
           does = on.does;
           none = on.none;

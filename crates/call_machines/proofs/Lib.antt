@@ -4,6 +4,7 @@ pub mod GrainEndLemmas
 pub mod GrainEvents
 pub mod GrainLemmas
 pub mod GrainNotes
+pub mod PartLemmas
 pub mod ProgramLemmas
 pub mod RunLemmas
 pub mod ScheduleLemmas

@@ -34,8 +34,8 @@ module _ {At Request Reply Out Object : Type 0} (system : System At Request Repl
       → step.act ≡ Made event said → IsMadeBy step.by event
   made_by step past of event said is =
       let own = own_in system step.by past in
-      own_event step.by (system.own step.by) own.stage (system.machine.does own.at) event
-      (subst (IsNext system.machine step.by (system.own step.by) own) is
+      own_event step.by own.stage (system.machine.does own.at) event
+      (subst (IsNext system.machine step.by own) is
       (last_of system step past of))
 
   -- one act more

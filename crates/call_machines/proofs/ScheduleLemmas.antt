@@ -6,7 +6,6 @@ use Rattle.std.proofs.Common.{refl, sym, ◌∙◌, ap, subst}
 use Rattle.std.specs.List.{AllByRecursion}
 use Rattle.std.proofs.lemmas.Bool.Decides.{eqb_tells}
 use Rattle.std.proofs.lemmas.List.{get_or-set_same, get_or-set_other, length-set}
-use Rattle.sync_base.specs.declared.ids.RendezId.{RendezId}
 use Rattle.sleep_core.specs.declared.answer.Answer.{Answer}
 use Rattle.sleep_core.specs.declared.event.Event.{Event}
 use Rattle.sleep_core.specs.declared.phase.Phase.{Phase}
@@ -74,19 +73,25 @@ event_made pid (phase.Owing r l) made = refl
 event_made pid (phase.Holding s r l) made = refl
 
 -- what belongs to a machine is an event of its process
-pub own_event : {Request Out : Type 0} (pid : ℕ) (own : RendezId) (stage : Phase)
-    (n : Next Request Out) (event : Event) → event_for pid own stage n ≡ Some event
+pub own_event : {Request Out : Type 0} (pid : ℕ) (stage : Phase)
+    (n : Next Request Out) (event : Event) → event_for pid stage n ≡ Some event
     → IsMadeBy pid event
-own_event pid own stage (Next.Sleep number) event is =
-    let same : event_in pid stage (core.Sleep own number) ≡ event = cc in
-    subst (IsMadeBy pid) same (event_made pid stage (core.Sleep own number))
-own_event pid own stage (Next.Wake r level) event is =
+own_event pid stage (Next.Sleep r number) event is =
+    let same : event_in pid stage (core.Sleep r number) ≡ event = cc in
+    subst (IsMadeBy pid) same (event_made pid stage (core.Sleep r number))
+own_event pid stage (Next.Wake r level) event is =
     let same : event_in pid stage (core.Wakeup r level) ≡ event = cc in
     subst (IsMadeBy pid) same (event_made pid stage (core.Wakeup r level))
-own_event pid own stage (Next.Return set) event is =
+own_event pid stage (Next.Return set) event is =
     let same : event_in pid stage (core.Note (record { 0 = pid }) set) ≡ event = cc in
     subst (IsMadeBy pid) same (event_made pid stage (core.Note (record { 0 = pid }) set))
-own_event pid own stage other event is = absurd cc
+own_event pid stage (Next.Post to set) event is =
+    let same : event_in pid stage (core.Note to set) ≡ event = cc in
+    subst (IsMadeBy pid) same (event_made pid stage (core.Note to set))
+own_event pid stage Next.Drain event is =
+    let same : event_in pid stage core.Drain ≡ event = cc in
+    subst (IsMadeBy pid) same (event_made pid stage core.Drain)
+own_event pid stage other event is = absurd cc
 
 -- nobody has moved at the opening
 idle_at_opening : (many rendez pid : ℕ) → phase.Idle ≡ phase_of (opening many rendez) pid
@@ -108,7 +113,7 @@ module _ {At Request Reply Out Object : Type 0} (system : System At Request Repl
   -- what a process does there
   abbrev Does : Position system → ℕ → Act Request Reply → Type 0
   Does at pid act =
-      IsNext system.machine pid (system.own pid)
+      IsNext system.machine pid
       (record { at = state_of system at pid; stage = phase_of at.world pid }) act
       × IsAnswered system at.world at.object act
 
@@ -118,13 +123,13 @@ module _ {At Request Reply Out Object : Type 0} (system : System At Request Repl
   does_so at pid act is = by (system.machine.does (state_of system at pid)) refl is
     where
       made : (n : Next Request Out) → system.machine.does (state_of system at pid) ≡ n
-          → (e : Option Event) → event_for pid (system.own pid) (phase_of at.world pid) n ≡ e
+          → (e : Option Event) → event_for pid (phase_of at.world pid) n ≡ e
           → made_in system at.world e ≡ Some act → Does at pid act
       made n n_is None none is = absurd cc
       made n n_is (Some event) event_is is =
           let same : ◌≡◌ {A = Act Request Reply} (Made event (answer_to at.world event)) act = cc in
           subst (Does at pid) same (
-            ap (event_for pid (system.own pid) (phase_of at.world pid)) n_is ∙ event_is,
+            ap (event_for pid (phase_of at.world pid)) n_is ∙ event_is,
             refl,
           )
 
@@ -135,7 +140,7 @@ module _ {At Request Reply Out Object : Type 0} (system : System At Request Repl
           (Asked request (system.answer at.object request)) act = cc in
           subst (Does at pid) same (n_is, refl)
       by other n_is is =
-          made other n_is (event_for pid (system.own pid) (phase_of at.world pid) other) refl is
+          made other n_is (event_for pid (phase_of at.world pid) other) refl is
 
   -- and what its machine does with that answer is what it does
   does_that : (at : Position system) (pid : ℕ) (act : Act Request Reply)
@@ -148,7 +153,7 @@ module _ {At Request Reply Out Object : Type 0} (system : System At Request Repl
       ∙ ap (λ (a : Answer). Some (Made event a)) (sym does.1)
     where
       by : (n : Next Request Out)
-          → event_for pid (system.own pid) (phase_of at.world pid) n ≡ Some event
+          → event_for pid (phase_of at.world pid) n ≡ Some event
           → act_for system at pid n ≡ Some (Made event (answer_to at.world event))
       by (Next.Ask request) is = absurd cc
       by other is = ap (made_in system at.world) is
@@ -210,7 +215,7 @@ module _ {At Request Reply Out Object : Type 0} (system : System At Request Repl
                   ≡ phase_of (world_after at.world event) pid
               moved =
                   ap (λ (t : Answer). phase_after t event (phase_of at.world pid)) does.1
-                  ∙ sym (phase_of-own at.world event pid (own_event pid (system.own pid)
+                  ∙ sym (phase_of-own at.world event pid (own_event pid
                   (phase_of at.world pid) (system.machine.does (state_of system at pid)) event
                   does.0))
 
@@ -229,7 +234,7 @@ module _ {At Request Reply Out Object : Type 0} (system : System At Request Repl
               differ))
           other_so (Made event told) does other differ =
               ap (λ (p : Phase). record { at = state_of system at other; stage = p })
-              (sym (phase_of-others at.world event pid other (own_event pid (system.own pid)
+              (sym (phase_of-others at.world event pid other (own_event pid
               (phase_of at.world pid) (system.machine.does (state_of system at pid)) event does.0)
               (λ same. differ (sym same))))
               ∙ ap (λ (x : At). record
@@ -262,15 +267,15 @@ module _ {At Request Reply Out Object : Type 0} (system : System At Request Repl
 
       -- and so each process still follows its machine
       next_calls : ((other : ℕ)
-          → Follows system.machine other (system.own other) (start_of system other)
+          → Follows system.machine other (start_of system other)
           (acts_of other run))
           → (other : ℕ)
-          → Follows system.machine other (system.own other) (start_of system other)
+          → Follows system.machine other (start_of system other)
           (acts_of other (step ∷ run))
       next_calls calls other = by (eqb_tells pid other)
         where
           All : ℕ → List (Act Request Reply) → Type 0
-          All o acts = Follows system.machine o (system.own o) (start_of system o) acts
+          All o acts = Follows system.machine o (start_of system o) acts
 
           by : ((eqb pid other ≡ true) × (pid ≡ other)) ⊎ ((eqb pid other ≡ false) × (pid ≢ other))
               → All other (acts_of other (step ∷ run))
@@ -278,7 +283,7 @@ module _ {At Request Reply Out Object : Type 0} (system : System At Request Repl
               subst (λ (o : ℕ). All o (acts_of o (step ∷ run))) same.1
               (subst (All pid) (sym (acts_more pid step run refl)) (
                 calls pid,
-                subst (λ (o : OwnState system.machine). IsNext system.machine pid (system.own pid) o
+                subst (λ (o : OwnState system.machine). IsNext system.machine pid o
                     act)
                     (sym (tracks.own pid)) does.0,
               ))
@@ -356,10 +361,10 @@ module _ {At Request Reply Out Object : Type 0} (system : System At Request Repl
   -- what its process did last is what its machine does
   pub last_of : (step : Step Request Reply) (past : List (Step Request Reply))
       → IsOfCalls system (step ∷ past)
-      → IsNext system.machine step.by (system.own step.by)
+      → IsNext system.machine step.by
       (own_in system step.by past) step.act
   last_of step past of =
-      (subst (Follows system.machine step.by (system.own step.by) (start_of system step.by))
+      (subst (Follows system.machine step.by (start_of system step.by))
       (acts_more step.by step past refl) (of.follows step.by)).1
 
   -- and before that each did what its machine does
@@ -369,7 +374,7 @@ module _ {At Request Reply Out Object : Type 0} (system : System At Request Repl
       record { right = of.right.0; follows = λ other. by other (eqb_tells step.by other) }
     where
       All : ℕ → List (Act Request Reply) → Type 0
-      All o acts = Follows system.machine o (system.own o) (start_of system o) acts
+      All o acts = Follows system.machine o (start_of system o) acts
 
       by : (other : ℕ)
           → ((eqb step.by other ≡ true) × (step.by ≡ other))
@@ -410,8 +415,7 @@ module _ {At Request Reply Out Object : Type 0} (system : System At Request Repl
 
           does : Does at step.by step.act
           does = (
-            subst (λ (o : OwnState system.machine). IsNext system.machine step.by
-                (system.own step.by) o step.act)
+            subst (λ (o : OwnState system.machine). IsNext system.machine step.by o step.act)
                 (so.tracks.own step.by) (last_of step past of),
             told_so step.act of.right.1.answered,
           )

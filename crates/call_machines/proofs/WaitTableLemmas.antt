@@ -174,7 +174,7 @@ module _ {Request Reply Out Seat : Type 0} (w : WaitTable Request Reply Out)
         (left_so why None old new fails left idle) refl
 
     step : (at : WaitState Out) (came : Outcome Reply) (old new : Point Seat) → Says at old
-        → HasDone Serves rendez (does w at) came old new → Says (goes_on w at came) new
+        → HasDone Serves (does w rendez at) came old new → Says (goes_on w at came) new
     step Begun (Outcome.Replied r) old new says done =
         let so = subst (λ (o : Point Seat). Serves w.begin r o.seat new.seat
         × (new.process ≡ o.process)) says done in
@@ -207,7 +207,7 @@ module _ {Request Reply Out Seat : Type 0} (w : WaitTable Request Reply Out)
     step at other old new says done = absurd done
 
     says : (times : ℕ) (now : MachinePoint (WaitState Out) Seat)
-        → Plays Serves rendez (machine_of w) times (record { state = Begun; at = first }) now
+        → Plays Serves (machine_of w rendez) times (record { state = Begun; at = first }) now
         → Says now.state now.at
     says zero now is =
         subst (λ (p : MachinePoint (WaitState Out) Seat). Says p.state p.at) (sym is) refl
@@ -217,13 +217,13 @@ module _ {Request Reply Out Seat : Type 0} (w : WaitTable Request Reply Out)
         (says times more.between more.before) more.done)
 
     is_wait : (answer : Result Out Fault) (after : Point Seat)
-        → Makes Serves rendez (machine_of w) (record { state = Begun; at = first }) answer after
+        → Makes Serves (machine_of w rendez) (record { state = Begun; at = first }) answer after
         → Waited promise rendez first answer after
     is_wait answer after makes =
         subst (Waited promise rendez first answer) (sym makes.after_is)
         (by makes.last.state (says makes.times makes.last makes.plays) makes.over)
       where
-        by : (at : WaitState Out) → Says at makes.last.at → does w at ≡ Next.Over answer
+        by : (at : WaitState Out) → Says at makes.last.at → does w rendez at ≡ Next.Over answer
             → Waited promise rendez first answer makes.last.at
         by (Over is) waited over =
             let same : is ≡ answer = cc in
@@ -237,11 +237,11 @@ module _ {Request Reply Out Seat : Type 0} (w : WaitTable Request Reply Out)
     -- it has come to this state here
     record Comes (at : WaitState Out) (now : Point Seat) : Type 0 where
       times : ℕ
-      plays : Plays Serves rendez (machine_of w) times (record { state = Begun; at = first })
+      plays : Plays Serves (machine_of w rendez) times (record { state = Begun; at = first })
           (record { state = at; at = now })
 
     more : (at : WaitState Out) (came : Outcome Reply) (old new : Point Seat) → Comes at old
-        → HasDone Serves rendez (does w at) came old new → Comes (goes_on w at came) new
+        → HasDone Serves (does w rendez at) came old new → Comes (goes_on w at came) new
     more at came old new comes done =
         record {
           times = suc comes.times;
@@ -339,7 +339,7 @@ module _ {Request Reply Out Seat : Type 0} (w : WaitTable Request Reply Out)
         (so.failed, refl)) (left.2, refl))) back
 
     whole : (answer : Result Out Fault) (after : Point Seat) → Comes (Over answer) after
-        → Makes Serves rendez (machine_of w) (record { state = Begun; at = first }) answer after
+        → Makes Serves (machine_of w rendez) (record { state = Begun; at = first }) answer after
     whole answer after comes =
         record {
           times = comes.times;
@@ -351,7 +351,7 @@ module _ {Request Reply Out Seat : Type 0} (w : WaitTable Request Reply Out)
 
     is_play : (answer : Result Out Fault) (after : Point Seat)
         → Waited promise rendez first answer after
-        → Makes Serves rendez (machine_of w) (record { state = Begun; at = first }) answer after
+        → Makes Serves (machine_of w rendez) (record { state = Begun; at = first }) answer after
     is_play (Ok out) after (inl begun) =
         whole (Ok out) after (begins (reply.Done out) after begun).0
     is_play (Err why) after (inl begun) =

@@ -6,17 +6,18 @@ use Rattle.std.proofs.Common.{refl, sym, ◌∙◌, ap, subst, Result, Ok, Err, 
 use Rattle.std.proofs.lemmas.Bool.Decides.{eqb_tells, nat_tests}
 use Rattle.sync_base.specs.declared.fault.Fault.{Fault}
 use Rattle.sync_base.specs.declared.fault.Fault.TheVariants as fault
+use Rattle.sync_base.specs.declared.ids.Pid.{Pid}
 use Rattle.sync_base.specs.declared.ids.RendezId.{RendezId}
 use Rattle.sync_base.specs.declared.note.NoteSet.{NoteSet}
 use Rattle.sync_base.specs.declared.limits.TheConstants.{TOP_LEVEL}
 use Rattle.sleep_core.specs.declared.answer.Answer.{Answer}
 use Rattle.sleep_core.specs.declared.answer.Answer.TheVariants as answer
 use Rattle.sleep_core.specs.declared.event.Event.{Event}
-use Rattle.sleep_core.specs.declared.event.Event.TheVariants.{Note}
+use Rattle.sleep_core.specs.declared.event.Event.TheVariants.{Drain, Note}
 use Rattle.sleep_core.specs.declared.phase.Phase.{Phase}
 use Rattle.sleep_core.specs.declared.phase.Phase.TheVariants as phase
 use Rattle.sleep_core.specs.Runs.{Entry, IsRun, kept, own, phase_by}
-use Rattle.sleep_core.specs.State.{State, phase_of}
+use Rattle.sleep_core.specs.State.{State, flags_of, phase_of}
 use Rattle.sleep_core.specs.Step.{answer_to}
 use Rattle.sleep_core.specs.Table.{phase_after}
 use Rattle.sleep_core.proofs.OwnEvents.{phase_by-kept_own}
@@ -40,6 +41,7 @@ use Rattle.call_machines.specs.Runs.{start_of, world_at}
 use Rattle.call_machines.specs.Runs.Act.{Asked, Made}
 use Rattle.call_machines.specs.WholeCalls.{IsKernelOf, IsThereFor, KnowsOwn, events_of, process_of}
 use Rattle.call_machines.specs.WholeCalls.{with_event}
+use Rattle.call_machines.proofs.GrainNotes.{drain_told, note_told}
 use Rattle.call_machines.proofs.RunLemmas.{is_core, sound_at, there_at}
 use Rattle.call_machines.proofs.ScheduleLemmas.{acts_more, acts_others, front_of, last_of, stage_is}
 use Rattle.call_machines.proofs.SleepEvents.{Leads, event_leads, told_there}
@@ -48,12 +50,9 @@ use Rattle.waiting.specs.Waiting.{Point}
 module _ {At Request Reply Out Object Seat : Type 0} (system : System At Request Reply Out Object)
     (Serves : Request → Reply → Seat → Seat → Type 0) (words : Words)
     (kernel : IsKernelOf system words) where
-  module _ (pid : ℕ) (there : pid < procs system) (row : (system.own pid).0 < system.rendez)
+  module _ (pid : ℕ) (there : pid < procs system)
       (seat_of : List (Step Request Reply) → Seat) (served : KnowsOwn system Serves pid seat_of)
     where
-      abbrev rendez : RendezId
-      rendez = system.own pid
-
       abbrev trace_at : List (Step Request Reply) → List Entry
       trace_at run = kept (own pid (events_of run))
 
@@ -68,9 +67,10 @@ module _ {At Request Reply Out Object Seat : Type 0} (system : System At Request
 
       -- ---- what is so after any run
 
-      row_at : (run : List (Step Request Reply)) → IsOfCalls system run
-          → rendez.0 < length (world_at system run).posted
-      row_at run of = subst (λ (m : ℕ). rendez.0 < m) (sym (sound_at system run of).rendez_stay) row
+      row_at : (run : List (Step Request Reply)) → IsOfCalls system run → (rendez : RendezId)
+          → rendez.0 < system.rendez → rendez.0 < length (world_at system run).posted
+      row_at run of rendez =
+          subst (λ (m : ℕ). rendez.0 < m) (sym (sound_at system run of).rendez_stay)
 
       process_is : (run : List (Step Request Reply)) → IsOfCalls system run
           → IsProcessOf words (with_trace (trace_at run))
@@ -92,12 +92,12 @@ module _ {At Request Reply Out Object Seat : Type 0} (system : System At Request
 
       module _ (first : MachinePoint At Seat)
           (may : (times : ℕ) (now : MachinePoint At Seat)
-          → Plays Serves rendez system.machine times first now
+          → Plays Serves system.machine times first now
           → IsThereFor system (system.machine.does now.state)) where
         -- it has come so far
         record Comes (at : At) (seat : Seat) (trace : List Entry) : Type 0 where
           times : ℕ
-          plays : Plays Serves rendez system.machine times first
+          plays : Plays Serves system.machine times first
               (record { state = at; at = here seat trace })
 
         -- between two things that it does
@@ -109,8 +109,9 @@ module _ {At Request Reply Out Object Seat : Type 0} (system : System At Request
         -- in a sleep
         record Sleeps_on (own : OwnState system.machine) (seat : Seat) (trace : List Entry) : Type
             0 where
+          rendez : RendezId
           number : ℕ
-          does : system.machine.does own.at ≡ Next.Sleep number
+          does : system.machine.does own.at ≡ Next.Sleep rendez number
           from : List Entry
           comes : Comes own.at seat from
           goes : InSleep words pid rendez number from own.stage trace
@@ -134,9 +135,9 @@ module _ {At Request Reply Out Object Seat : Type 0} (system : System At Request
 
         -- one thing more that it did
         more : (at : At) (t : Outcome Reply) (old new : Point Seat) (times : ℕ)
-            → Plays Serves rendez system.machine times first (record { state = at; at = old })
-            → HasDone Serves rendez (system.machine.does at) t old new
-            → Plays Serves rendez system.machine (suc times) first
+            → Plays Serves system.machine times first (record { state = at; at = old })
+            → HasDone Serves (system.machine.does at) t old new
+            → Plays Serves system.machine (suc times) first
             (record { state = system.machine.goes_on at t; at = new })
         more at t old new times plays did =
             record {
@@ -159,7 +160,7 @@ module _ {At Request Reply Out Object Seat : Type 0} (system : System At Request
           -- is the last of what it did
           over_so : (from : List Entry) → Comes own.at seat from → (n : Next Request Out)
               → system.machine.does own.at ≡ n → (t : Outcome Reply) → outcome_of made said ≡ t
-              → HasDone Serves rendez n t (here seat from) (here seat later)
+              → HasDone Serves n t (here seat from) (here seat later)
               → is_idle stage ≡ true → InCall after seat later
           over_so from comes n does t t_is did idle =
               inl (record {
@@ -167,10 +168,10 @@ module _ {At Request Reply Out Object Seat : Type 0} (system : System At Request
                 comes = record {
                   times = suc comes.times;
                   plays = subst
-                      (λ (x : At). Plays Serves rendez system.machine (suc comes.times) first
+                      (λ (x : At). Plays Serves system.machine (suc comes.times) first
                       (record { state = x; at = here seat later })) at_is
                       (more own.at t (here seat from) (here seat later) comes.times comes.plays
-                      (subst (λ (m : Next Request Out). HasDone Serves rendez m t (here seat from)
+                      (subst (λ (m : Next Request Out). HasDone Serves m t (here seat from)
                       (here seat later)) (sym does) did));
                 };
               })
@@ -196,28 +197,31 @@ module _ {At Request Reply Out Object Seat : Type 0} (system : System At Request
               (sym busy) comes
 
           -- of a sleep
-          sleep_goes : (from : List Entry) → Comes own.at seat from → (number : ℕ)
-              → system.machine.does own.at ≡ Next.Sleep number
+          sleep_goes : (from : List Entry) → Comes own.at seat from
+              → (rendez : RendezId) (number : ℕ)
+              → system.machine.does own.at ≡ Next.Sleep rendez number
               → ◌≡◌ {A = Outcome Reply} (outcome_of made said) (sleep_outcome said)
               → Leads words pid rendez number from said stage later → InCall after seat later
-          sleep_goes from comes number does said_is (inl (busy, goes)) =
+          sleep_goes from comes rendez number does said_is (inl (busy, goes)) =
               inr (inl (record {
+                rendez = rendez;
                 number = number;
-                does = does_on (Next.Sleep number) does busy;
+                does = does_on (Next.Sleep rendez number) does busy;
                 from = from;
                 comes = comes_on from comes busy;
                 goes = goes;
                 busy = busy;
               }))
-          sleep_goes from comes number does said_is (inr (idle, inl well)) =
-              over_so from comes (Next.Sleep number) does (Outcome.Slept (Ok tt))
+          sleep_goes from comes rendez number does said_is (inr (idle, inl well)) =
+              over_so from comes (Next.Sleep rendez number) does (Outcome.Slept (Ok tt))
               (said_is ∙ ap sleep_outcome well.told_is) (well.slept, refl) idle
-          sleep_goes from comes number does said_is (inr (idle, inr (inl noted))) =
-              over_so from comes (Next.Sleep number) does
+          sleep_goes from comes rendez number does said_is (inr (idle, inr (inl noted))) =
+              over_so from comes (Next.Sleep rendez number) does
               (Outcome.Slept (Err (fault.Interrupted noted.set)))
               (said_is ∙ ap sleep_outcome noted.told_is) (noted.failed, refl) idle
-          sleep_goes from comes number does said_is (inr (idle, inr (inr taken))) =
-              over_so from comes (Next.Sleep number) does (Outcome.Slept (Err fault.DoubleSleep))
+          sleep_goes from comes rendez number does said_is (inr (idle, inr (inr taken))) =
+              over_so from comes (Next.Sleep rendez number) does
+              (Outcome.Slept (Err fault.DoubleSleep))
               (said_is ∙ ap sleep_outcome taken.told_is) (taken.failed, refl) idle
 
           -- of a wakeup
@@ -247,20 +251,20 @@ module _ {At Request Reply Out Object Seat : Type 0} (system : System At Request
                   }))
 
         -- the last answer of a sleep is told
-        sleep_ended : (number : ℕ) (from : List Entry) (stage : Phase) (trace : List Entry)
-            (said : Answer) → InSleep words pid rendez number from stage trace
+        sleep_ended : (rendez : RendezId) (number : ℕ) (from : List Entry) (stage : Phase)
+            (trace : List Entry) (said : Answer) → InSleep words pid rendez number from stage trace
             → ◌≡◌ {A = Outcome Reply}
             (outcome_of (event_in pid stage (core.Sleep rendez number)) said)
             (sleep_outcome said)
-        sleep_ended number from phase.Idle trace said goes = refl
-        sleep_ended number from (phase.Posted r t) trace said goes = refl
-        sleep_ended number from (phase.Asleep r t) trace said goes = refl
-        sleep_ended number from (phase.Leaving r) trace said goes = refl
-        sleep_ended number from phase.Awaiting trace said goes = refl
-        sleep_ended number from phase.Woken trace said goes = refl
-        sleep_ended number from phase.Out trace said goes = refl
-        sleep_ended number from (phase.Owing r l) trace said goes = absurd goes
-        sleep_ended number from (phase.Holding q r l) trace said goes = absurd goes
+        sleep_ended rendez number from phase.Idle trace said goes = refl
+        sleep_ended rendez number from (phase.Posted r t) trace said goes = refl
+        sleep_ended rendez number from (phase.Asleep r t) trace said goes = refl
+        sleep_ended rendez number from (phase.Leaving r) trace said goes = refl
+        sleep_ended rendez number from phase.Awaiting trace said goes = refl
+        sleep_ended rendez number from phase.Woken trace said goes = refl
+        sleep_ended rendez number from phase.Out trace said goes = refl
+        sleep_ended rendez number from (phase.Owing r l) trace said goes = absurd goes
+        sleep_ended rendez number from (phase.Holding q r l) trace said goes = absurd goes
 
         wake_ended : (other : RendezId) (level : ℕ) (from : List Entry)
             (idle : phase_by from ≡ phase.Idle) (stage : Phase) (trace : List Entry) (said : Answer)
@@ -313,17 +317,18 @@ module _ {At Request Reply Out Object Seat : Type 0} (system : System At Request
               → InCall (own_after system.machine o (Made made said)) a
               (with_step (told_so pid made said) l)
 
-          sleep_event : (from : List Entry) → Comes o.at a from → (number : ℕ)
-              → system.machine.does o.at ≡ Next.Sleep number
+          sleep_event : (from : List Entry) → Comes o.at a from
+              → (rendez : RendezId) (number : ℕ)
+              → system.machine.does o.at ≡ Next.Sleep rendez number
               → InSleep words pid rendez number from o.stage l
               → EventTo (event_in pid o.stage (core.Sleep rendez number))
               (answer_to s (event_in pid o.stage (core.Sleep rendez number)))
-          sleep_event from comes number does goes of_words =
+          sleep_event from comes rendez number does goes of_words =
               sleep_goes o a made said (phase_after said made o.stage)
-              (with_step (told_so pid made said) l) from comes number does
-              (sleep_ended number from o.stage l said goes)
+              (with_step (told_so pid made said) l) from comes rendez number does
+              (sleep_ended rendez number from o.stage l said goes)
               (event_leads words pid rendez number from s (there_at system pid there past of_past)
-              (row_at past of_past) low l o.stage stage_here goes of_words)
+              (row_at past of_past rendez is_there.0) is_there.1 l o.stage stage_here goes of_words)
             where
               made : Event
               made = event_in pid o.stage (core.Sleep rendez number)
@@ -331,8 +336,8 @@ module _ {At Request Reply Out Object Seat : Type 0} (system : System At Request
               said : Answer
               said = answer_to s made
 
-              low : number ≢ TOP_LEVEL
-              low =
+              is_there : (rendez.0 < system.rendez) × (number ≢ TOP_LEVEL)
+              is_there =
                   subst (IsThereFor system) does
                   (may comes.times (record { state = o.at; at = here a from }) comes.plays)
 
@@ -373,6 +378,23 @@ module _ {At Request Reply Out Object Seat : Type 0} (system : System At Request
                   sound.sound.whole.levels ∙ (sound.rendez_stay ∙ sym kernel.rendez_are))
                   o.stage l stage_here goes
 
+          post_event : (to : Pid) (set : NoteSet) → system.machine.does o.at ≡ Next.Post to set
+              → o.stage ≡ phase.Idle → Comes o.at a l
+              → EventTo (Note to set) (answer_to s (Note to set))
+          post_event to set does idle comes of_words =
+              subst (λ (said : Answer). InCall
+              (own_after system.machine o (Made (Note to set) said))
+              a (with_step (told_so pid (Note to set) said) l))
+              (sym (note_told s to.0 set (there_at system to.0 low past of_past)))
+              (over_so o a (Note to set) answer.Noted o.stage
+              (told_so pid (Note to set) answer.Noted ∷ l) l comes (Next.Post to set) does
+              Outcome.Went refl (refl, refl) (ap is_idle idle))
+            where
+              low : to.0 < procs system
+              low =
+                  subst (IsThereFor system) does
+                  (may comes.times (record { state = o.at; at = here a l }) comes.plays)
+
           note_event : (set : NoteSet) → system.machine.does o.at ≡ Next.Return set
               → o.stage ≡ phase.Idle → Comes o.at a l
               → EventTo (Note (proc pid) set) (answer_to s (Note (proc pid) set))
@@ -392,22 +414,41 @@ module _ {At Request Reply Out Object Seat : Type 0} (system : System At Request
                   told_there s pid (Note (proc pid) set) o.stage refl there_is.within stage_here
                   (grind (arith, nat_tests))
 
+          drain_event : system.machine.does o.at ≡ Next.Drain → o.stage ≡ phase.Idle
+              → Comes o.at a l
+              → EventTo (Drain (proc pid)) (answer_to s (Drain (proc pid)))
+          drain_event does idle comes of_words =
+              subst (λ (said : Answer). InCall
+              (own_after system.machine o (Made (Drain (proc pid)) said))
+              a (with_step (told_so pid (Drain (proc pid)) said) l)) (sym said_is)
+              (over_so o a (Drain (proc pid)) (answer.Notes set) o.stage
+              (told_so pid (Drain (proc pid)) (answer.Notes set) ∷ l) l comes Next.Drain does
+              (Outcome.Took set) refl (refl, refl) (ap is_idle idle))
+            where
+              set : NoteSet
+              set = (flags_of s pid).notes
+
+              said_is : answer_to s (Drain (proc pid)) ≡ answer.Notes set
+              said_is =
+                  drain_told s pid (there_at system pid there past of_past) (stage_here ∙ idle)
+
           -- what it is, by where its call is
           event_to : (made : Event)
-              → event_for pid rendez o.stage (system.machine.does o.at) ≡ Some made
+              → event_for pid o.stage (system.machine.does o.at) ≡ Some made
               → EventTo made (answer_to s made)
           event_to made made_is = by in_call
             where
               by : InCall o a l → EventTo made (answer_to s made)
               by (inr (inl sleeps)) =
-                  let same : event_in pid o.stage (core.Sleep rendez sleeps.number) ≡ made =
-                  (let both = ap (event_for pid rendez o.stage) (sym sleeps.does) ∙ made_is in
+                  let same : event_in pid o.stage (core.Sleep sleeps.rendez sleeps.number) ≡ made =
+                  (let both = ap (event_for pid o.stage) (sym sleeps.does) ∙ made_is in
                   cc) in
                   subst (λ (e : Event). EventTo e (answer_to s e)) same
-                  (sleep_event sleeps.from sleeps.comes sleeps.number sleeps.does sleeps.goes)
+                  (sleep_event sleeps.from sleeps.comes sleeps.rendez sleeps.number sleeps.does
+                  sleeps.goes)
               by (inr (inr wakes)) =
                   let same : event_in pid o.stage (core.Wakeup wakes.other wakes.level) ≡ made =
-                  (let both = ap (event_for pid rendez o.stage) (sym wakes.does) ∙ made_is in cc) in
+                  (let both = ap (event_for pid o.stage) (sym wakes.does) ∙ made_is in cc) in
                   subst (λ (e : Event). EventTo e (answer_to s e)) same
                   (wake_event wakes.from wakes.comes wakes.idle wakes.other wakes.level wakes.does
                   wakes.goes)
@@ -422,14 +463,14 @@ module _ {At Request Reply Out Object Seat : Type 0} (system : System At Request
                       ∙ (stage_here ∙ between.idle))
 
                   begins : (n : Next Request Out) → system.machine.does o.at ≡ n
-                      → event_for pid rendez o.stage n ≡ Some made
+                      → event_for pid o.stage n ≡ Some made
                       → EventTo made (answer_to s made)
                   begins (Next.Ask request) does is = absurd cc
                   begins (Next.Over answer) does is = absurd cc
-                  begins (Next.Sleep number) does is =
+                  begins (Next.Sleep rendez number) does is =
                       let same : event_in pid o.stage (core.Sleep rendez number) ≡ made = cc in
                       subst (λ (e : Event). EventTo e (answer_to s e)) same
-                      (sleep_event l between.comes number does
+                      (sleep_event l between.comes rendez number does
                       (subst (λ (p : Phase). InSleep words pid rendez number l p l)
                       (sym between.idle) refl))
                   begins (Next.Wake other level) does is =
@@ -438,6 +479,18 @@ module _ {At Request Reply Out Object Seat : Type 0} (system : System At Request
                       (wake_event l between.comes idle_by other level does
                       (subst (λ (p : Phase). InWakeup words pid other level l idle_by p l)
                       (sym between.idle) refl))
+                  begins Next.Drain does is =
+                      let same : Drain (proc pid) ≡ made =
+                      (let both = ap (λ (p : Phase). event_in pid p core.Drain)
+                      (sym between.idle) in cc) in
+                      subst (λ (e : Event). EventTo e (answer_to s e)) same
+                      (drain_event does between.idle between.comes)
+                  begins (Next.Post to set) does is =
+                      let same : Note to set ≡ made =
+                      (let both = ap (λ (p : Phase). event_in pid p (core.Note to set))
+                      (sym between.idle) in cc) in
+                      subst (λ (e : Event). EventTo e (answer_to s e)) same
+                      (post_event to set does between.idle between.comes)
                   begins (Next.Return set) does is =
                       let same : Note (proc pid) set ≡ made =
                       (let both = ap (λ (p : Phase). event_in pid p (core.Note (proc pid) set))
@@ -466,7 +519,7 @@ module _ {At Request Reply Out Object Seat : Type 0} (system : System At Request
                       times = suc between.comes.times;
                       plays = more o.at (Outcome.Replied reply) (here a l) (here next_seat l)
                           between.comes.times between.comes.plays
-                          (subst (λ (n : Next Request Out). HasDone Serves rendez n
+                          (subst (λ (n : Next Request Out). HasDone Serves n
                           (Outcome.Replied reply)
                           (here a l) (here next_seat l)) (sym does)
                           (served.asks request reply past of, refl));
@@ -552,7 +605,7 @@ module _ {At Request Reply Out Object Seat : Type 0} (system : System At Request
 
       module _ (before : List (Step Request Reply)) (idle : (own_at before).stage ≡ phase.Idle)
           (may : (times : ℕ) (now : MachinePoint At Seat)
-          → Plays Serves rendez system.machine times (first_at before) now
+          → Plays Serves system.machine times (first_at before) now
           → IsThereFor system (system.machine.does now.state)) where
         in_run : (between : List (Step Request Reply)) → IsOfCalls system (between ++ before)
             → InCall (first_at before) may (own_at (between ++ before))
@@ -568,7 +621,7 @@ module _ {At Request Reply Out Object Seat : Type 0} (system : System At Request
         pub is_play : (between : List (Step Request Reply)) → IsOfCalls system (between ++ before)
             → (answer : Result Out Fault)
             → system.machine.does (own_at (between ++ before)).at ≡ Next.Over answer
-            → Makes Serves rendez system.machine (first_at before) answer
+            → Makes Serves system.machine (first_at before) answer
             (record {
               seat = seat_of (between ++ before);
               process = process_of words pid (between ++ before);
@@ -577,7 +630,7 @@ module _ {At Request Reply Out Object Seat : Type 0} (system : System At Request
           where
             by : InCall (first_at before) may (own_at (between ++ before))
                 (seat_of (between ++ before)) (trace_at (between ++ before))
-                → Makes Serves rendez system.machine (first_at before) answer
+                → Makes Serves system.machine (first_at before) answer
                 (record {
                   seat = seat_of (between ++ before);
                   process = process_of words pid (between ++ before);

@@ -82,9 +82,9 @@ pub data LatchState : Type 0 where
 abbrev pub rendez : ℕ → RendezId
 rendez number = record { 0 = number }
 
--- what each of the two kinds of process does
+-- what each of the two kinds of process does: who waits sleeps in the first Rendez
 abbrev pub latch_does : LatchState → Next LatchCall Unit
-latch_does (Waiting at) = waits_does wait_table at
+latch_does (Waiting at) = waits_does wait_table (rendez 0) at
 latch_does Setting = Next.Ask Set
 latch_does Waking = Next.Wake (rendez 0) 1
 latch_does Finished = Next.Over (Ok tt)
@@ -105,7 +105,6 @@ latch_of starts =
       after = latch_after;
       opening = false;
       rendez = 2;
-      own = rendez;
       starts = starts;
       none = Finished;
     }
@@ -223,7 +222,7 @@ lone_is_run =
 
 -- its next event is a look that finds nothing
 lone_is_parked : IsParked (world_at lone asleep)
-    (event_for 0 (rendez 0) (phase.Asleep (rendez 0) 0) (latch_does (Waiting (Waits 0))))
+    (event_for 0 (phase.Asleep (rendez 0) 0) (latch_does (Waiting (Waits 0))))
 lone_is_parked = (event.Look (proc 0), refl, refl)
 
 lone_is_stuck : IsStuck lone (position_of lone (0 ∷ 0 ∷ 0 ∷ []))
@@ -248,7 +247,7 @@ not_stopped : HasStopped latch asleep → ⊥
 not_stopped stopped = let there : 1 < 2 = omega arith in by (stopped (suc zero) there)
   where
     by : HasEnded (latch_does Setting)
-        ⊎ IsParked (world_at latch asleep) (event_for 1 (rendez 1) phase.Idle (latch_does Setting))
+        ⊎ IsParked (world_at latch asleep) (event_for 1 phase.Idle (latch_does Setting))
         → ⊥
     by (inl none) = none
     by (inr parked) = let none = parked.1 in cc

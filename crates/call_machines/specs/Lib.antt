@@ -1,9 +1,12 @@
+pub mod Devices
 pub mod Ends
 pub mod Grain
 pub mod GrainEnds
 pub mod Machine
+pub mod Parts
 pub mod Plays
 pub mod Programs
+pub mod Replies
 pub mod Runs
 pub mod Schedules
 pub mod StrictRuns

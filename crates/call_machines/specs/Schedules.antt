@@ -40,7 +40,7 @@ module _ {At Request Reply Out Object : Type 0} (system : System At Request Repl
   abbrev pub act_for : Position → ℕ → Next Request Out → Option (Act Request Reply)
   act_for at pid (Next.Ask request) = Some (Asked request (system.answer at.object request))
   act_for at pid other =
-      made_in at.world (event_for pid (system.own pid) (phase_of at.world pid) other)
+      made_in at.world (event_for pid (phase_of at.world pid) other)
 
   abbrev pub act_of : Position → ℕ → Option (Act Request Reply)
   act_of at pid = act_for at pid (system.machine.does (state_of at pid))

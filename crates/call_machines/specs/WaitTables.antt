@@ -52,13 +52,14 @@ left_with why (Some out) = goes_with_result why out
 left_with why None = Over (Err why)
 
 module _ {Request Reply Out : Type 0} (table : WaitTable Request Reply Out) where
-  abbrev pub does : WaitState Out → Next Request Out
-  does Begun = Next.Ask table.begin
-  does (Waits number) = Next.Sleep number
-  does Asking = Next.Ask table.again
-  does (Leaving why) = Next.Ask table.leave
-  does (Returning set out) = Next.Return set
-  does (Over answer) = Next.Over answer
+  -- it waits in this Rendez
+  abbrev pub does : RendezId → WaitState Out → Next Request Out
+  does rendez Begun = Next.Ask table.begin
+  does rendez (Waits number) = Next.Sleep rendez number
+  does rendez Asking = Next.Ask table.again
+  does rendez (Leaving why) = Next.Ask table.leave
+  does rendez (Returning set out) = Next.Return set
+  does rendez (Over answer) = Next.Over answer
 
   abbrev pub goes_on : WaitState Out → Outcome Reply → WaitState Out
   goes_on Begun (Outcome.Replied r) = goes_with (table.begun r)
@@ -69,8 +70,8 @@ module _ {Request Reply Out : Type 0} (table : WaitTable Request Reply Out) wher
   goes_on (Returning set out) Outcome.Went = Over (Ok out)
   goes_on at other = at
 
-  abbrev pub machine_of : Machine (WaitState Out) Request Reply Out
-  machine_of = record { does = does; goes_on = goes_on }
+  abbrev pub machine_of : RendezId → Machine (WaitState Out) Request Reply Out
+  machine_of rendez = record { does = does rendez; goes_on = goes_on }
 
   module _ {Seat : Type 0} (promise : Promise Seat Out)
       (Serves : Request → Reply → Seat → Seat → Type 0) (Rests Waiting : Seat → Type 0) where
@@ -105,8 +106,8 @@ module _ {Request Reply Out : Type 0} (table : WaitTable Request Reply Out) wher
     WaitsArePlays =
         (rendez : RendezId) (before : Point Seat) (answer : Result Out Fault) (after : Point Seat)
         → Rests before.seat
-        → (Keeps → Makes Serves rendez machine_of (record { state = Begun; at = before }) answer
+        → (Keeps → Makes Serves (machine_of rendez) (record { state = Begun; at = before }) answer
         after
         → Waited promise rendez before answer after)
         × (AllowsNoMore → Waited promise rendez before answer after
-        → Makes Serves rendez machine_of (record { state = Begun; at = before }) answer after)
+        → Makes Serves (machine_of rendez) (record { state = Begun; at = before }) answer after)

@@ -35,10 +35,11 @@ module _ {At Request Reply Out Object : Type 0} (system : System At Request Repl
     pub procs_are : procs_in words ≡ procs system
     pub rendez_are : rendez_of words ≡ system.rendez
 
-  -- a level can be above the number of a sleep, and the Rendez of a wakeup is there
+  -- the Rendez of a sleep and of a wakeup is there, and a level can be above the number of a sleep
   abbrev pub IsThereFor : Next Request Out → Type 0
-  IsThereFor (Next.Sleep number) = number ≢ TOP_LEVEL
+  IsThereFor (Next.Sleep rendez number) = (rendez.0 < system.rendez) × (number ≢ TOP_LEVEL)
   IsThereFor (Next.Wake rendez level) = rendez.0 < system.rendez
+  IsThereFor (Next.Post pid set) = pid.0 < procs system
   IsThereFor other = ⊤
 
 module _ {At Request Reply Out Object Seat : Type 0} (system : System At Request Reply Out Object)
@@ -73,15 +74,13 @@ module _ {At Request Reply Out Object Seat : Type 0} (system : System At Request
       (before between : List (Step Request Reply)) (answer : Result Out Fault)
       → IsKernelOf system words
       → pid < procs system
-      → (system.own pid).0 < system.rendez
       → KnowsOwn pid seat_of
       → ((times : ℕ) (now : MachinePoint At Seat)
-      → Plays Serves (system.own pid) system.machine times (point_after words pid seat_of before)
-      now
+      → Plays Serves system.machine times (point_after words pid seat_of before) now
       → IsThereFor system (system.machine.does now.state))
       → (own_in system pid before).stage ≡ phase.Idle
       → IsOfCalls system (between ++ before)
       → system.machine.does (point_after words pid seat_of (between ++ before)).state
       ≡ Next.Over answer
-      → Makes Serves (system.own pid) system.machine (point_after words pid seat_of before) answer
+      → Makes Serves system.machine (point_after words pid seat_of before) answer
       (point_after words pid seat_of (between ++ before)).at

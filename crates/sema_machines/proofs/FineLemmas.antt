@@ -5,7 +5,6 @@ use Rattle.std.proofs.Common.{Ok, Err, sym, subst, arith}
 use Rattle.std.specs.Prelude.{⊤}
 use Rattle.sync_base.specs.declared.fault.Fault.{Fault}
 use Rattle.sync_base.specs.declared.fault.Fault.TheVariants as fault
-use Rattle.sync_base.specs.declared.ids.RendezId.{RendezId}
 use Rattle.kernel_lock.specs.Seats.{number_of}
 use Rattle.semaphore.specs.declared.limits.TheConstants.{LAST_GRANT}
 use Rattle.semaphore.specs.declared.sema.Sema.{Sema}
@@ -36,9 +35,10 @@ use Rattle.sema_machines.proofs.HoldLemmas.{alone, found}
 module _ (sema : Sema) where
   -- what the seat of a call is, by where the call has come
   abbrev pub Fine : CallState → SemaSeat → Type 0
-  Fine (Takes number Begun) seat = IsAt sema number false seat
-  Fine (Takes number (Waits count)) seat = IsAt sema number true seat × (count ≤ LAST_GRANT)
-  Fine (Takes number Asking) seat = IsAt sema number true seat
+  Fine (Takes number Begun) seat = IsAt sema number false seat × (number < sema.procs)
+  Fine (Takes number (Waits count)) seat =
+      IsAt sema number true seat × (number < sema.procs) × (count ≤ LAST_GRANT)
+  Fine (Takes number Asking) seat = IsAt sema number true seat × (number < sema.procs)
   Fine (Takes number (Leaving why)) seat = IsAt sema number true seat
   Fine (Gives count Releasing) seat = IsSemaSeatOf sema seat
   Fine (Gives count (Waking sum named grants)) seat =
@@ -49,11 +49,11 @@ module _ (sema : Sema) where
   -- ---- a semacquire
 
   first_fine : (number : ℕ) (replied : HoldReply) (old new : Point SemaSeat)
-      → IsAt sema number false old.seat
+      → IsAt sema number false old.seat → number < sema.procs
       → Serves sema (Alone (Acquire number)) replied old.seat new.seat
       → new.process ≡ old.process
       → Fine (Takes number (goes_with (at_first replied.first))) new.seat
-  first_fine number replied old new at serves idle =
+  first_fine number replied old new at low serves idle =
       by replied.first (begins sema number replied old new at serves idle).1
       (found sema false (Acquire number) replied.first old.seat new.seat at.0
       (alone sema (Acquire number) replied old.seat new.seat serves))
@@ -63,16 +63,17 @@ module _ (sema : Sema) where
           → IsTold sema.procs (number_of old.seat.seat) false (Acquire number) r
           → Fine (Takes number (goes_with (at_first r))) new.seat
       by (reply.Wait count) stands told =
-          (stands, acquire_fits sema.procs (number_of old.seat.seat) number count told (sym at.1))
+          let fits = acquire_fits sema.procs (number_of old.seat.seat) number count told (sym at.1)
+          in (stands, low, fits)
       by reply.Worn stands told = tt
       by other stands told = tt
 
   again_fine : (number : ℕ) (replied : HoldReply) (old new : Point SemaSeat)
-      → IsAt sema number true old.seat
+      → IsAt sema number true old.seat → number < sema.procs
       → Serves sema (Alone (Collect number)) replied old.seat new.seat
       → new.process ≡ old.process
       → Fine (Takes number (goes_with (at_again replied.first))) new.seat
-  again_fine number replied old new at serves idle =
+  again_fine number replied old new at low serves idle =
       by replied.first (asks sema number replied old new at serves idle).1
       (found sema true (Collect number) replied.first old.seat new.seat at.0
       (alone sema (Collect number) replied old.seat new.seat serves))
@@ -83,7 +84,8 @@ module _ (sema : Sema) where
           → Fine (Takes number (goes_with (at_again r))) new.seat
       by (reply.Wait count) stands told =
           let same = sym at.1 in
-          (stands, collect_fits sema.procs (number_of old.seat.seat) number count true told same)
+          let fits = collect_fits sema.procs (number_of old.seat.seat) number count true told same
+          in (stands, low, fits)
       by other stands told = tt
 
   left_fine : (number : ℕ) (why : Fault) (out : Option Unit) (seat : SemaSeat)
@@ -113,49 +115,51 @@ module _ (sema : Sema) where
 
   -- ---- one step
 
-  step : (rendez : RendezId) (at : CallState) (came : Outcome HoldReply) (old new : Point SemaSeat)
-      → Fine at old.seat → HasDone (Serves sema) rendez (call_does sema at) came old new
+  step : (at : CallState) (came : Outcome HoldReply) (old new : Point SemaSeat)
+      → Fine at old.seat → HasDone (Serves sema) (call_does sema at) came old new
       → Fine (call_goes_on sema at came) new.seat
-  step rendez (Takes number Begun) (Outcome.Replied r) old new fine done =
-      first_fine number r old new fine done.0 done.1
-  step rendez (Takes number (Waits count)) (Outcome.Slept (Ok unit)) old new fine done =
+  step (Takes number Begun) (Outcome.Replied r) old new fine done =
+      first_fine number r old new fine.0 fine.1 done.0 done.1
+  step (Takes number (Waits count)) (Outcome.Slept (Ok unit)) old new fine done =
+      (subst (IsAt sema number true) (sym done.1) fine.0, fine.1)
+  step (Takes number (Waits count)) (Outcome.Slept (Err why)) old new fine done =
       subst (IsAt sema number true) (sym done.1) fine.0
-  step rendez (Takes number (Waits count)) (Outcome.Slept (Err why)) old new fine done =
-      subst (IsAt sema number true) (sym done.1) fine.0
-  step rendez (Takes number Asking) (Outcome.Replied r) old new fine done =
-      again_fine number r old new fine done.0 done.1
-  step rendez (Takes number (Leaving why)) (Outcome.Replied r) old new fine done =
+  step (Takes number Asking) (Outcome.Replied r) old new fine done =
+      again_fine number r old new fine.0 fine.1 done.0 done.1
+  step (Takes number (Leaving why)) (Outcome.Replied r) old new fine done =
       left_fine number why (at_leave r.first) new.seat
-  step rendez (Takes number (Returning set out)) Outcome.Went old new fine done = tt
-  step rendez (Tries number at) came old new fine done = tt
-  step rendez (Gives count Releasing) (Outcome.Replied r) old new fine done =
+  step (Takes number (Returning set out)) Outcome.Went old new fine done = tt
+  step (Tries number at) came old new fine done = tt
+  step (Gives count Releasing) (Outcome.Replied r) old new fine done =
       released_fine count r.first r.second old.seat new.seat fine done.0
-  step rendez (Gives count (Waking sum named grants)) Outcome.Went old new fine done =
+  step (Gives count (Waking sum named grants)) Outcome.Went old new fine done =
       subst (IsSemaSeatOf sema) (sym done.1) fine.0
-  step rendez (Gives count (Naming sum)) (Outcome.Replied r) old new fine done =
+  step (Gives count (Naming sum)) (Outcome.Replied r) old new fine done =
       named_fine count sum r.first old.seat new.seat fine
       (alone sema NextWake r old.seat new.seat done.0)
-  step rendez at came old new fine done = absurd done
+  step at came old new fine done = absurd done
 
   -- wherever the call has come, its seat is so
-  pub fine_so : (rendez : RendezId) (times : ℕ) (first now : MachinePoint CallState SemaSeat)
+  pub fine_so : (times : ℕ) (first now : MachinePoint CallState SemaSeat)
       → Fine first.state first.at.seat
-      → Plays (Serves sema) rendez
+      → Plays (Serves sema)
       (record { does = call_does sema; goes_on = call_goes_on sema }) times first now
       → Fine now.state now.at.seat
-  fine_so rendez zero first now fine is =
+  fine_so zero first now fine is =
       subst (λ (p : MachinePoint CallState SemaSeat). Fine p.state p.at.seat) (sym is) fine
-  fine_so rendez (suc times) first now fine more =
+  fine_so (suc times) first now fine more =
       subst (λ (s : CallState). Fine s now.at.seat) (sym more.goes_on)
-      (step rendez more.between.state more.came more.between.at now.at
-      (fine_so rendez times first more.between fine more.before) more.done)
+      (step more.between.state more.came more.between.at now.at
+      (fine_so times first more.between fine more.before) more.done)
 
   -- so what it does next is there
   pub is_there : {At Object : Type 0} (system : System At Hold HoldReply CallOut Object)
       → sema.first + sema.procs ≤ system.rendez
       → (at : CallState) (seat : SemaSeat) → Fine at seat → IsThereFor system (call_does sema at)
   is_there system row (Takes number (Waits count)) seat fine =
-      λ is. let low = fine.1 in absurd (omega (arith, low, is))
+      let low = fine.1 in
+      let fits = fine.2 in
+      (omega (arith, row, low), λ is. absurd (omega (arith, fits, is)))
   is_there system row (Gives count (Waking sum named grants)) seat fine =
       let low = fine.1 in omega (arith, row, low)
   is_there system row (Takes number Begun) seat fine = tt

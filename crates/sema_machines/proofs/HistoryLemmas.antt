@@ -1,6 +1,7 @@
 -- The requests of a run of a semaphore's calls are one legal history, and each seat knows of it
 -- what its own requests tell.
-use Rattle.std.proofs.Common.{◌≡◌, ◌≢◌, ◌<◌, ℕ, Bool, true, false, eqb, cond, Option, Some, None}
+use Rattle.std.proofs.Common.{◌≡◌, ◌≢◌, ◌⊎◌, inl, inr, ◌<◌, ℕ, Bool, true, false, eqb, cond, Option}
+use Rattle.std.proofs.Common.{Some, None}
 use Rattle.std.proofs.Common.{List, [], ◌∷◌, refl, sym, ◌∙◌, ap, subst, arith}
 use Rattle.std.specs.Prelude.{⊤, IfSome, slice_index_or}
 use Rattle.std.proofs.lemmas.Bool.Decides.{nat_tests}
@@ -34,7 +35,7 @@ use Rattle.sema_machines.specs.Holds.{AsksAlone, Hold, HoldReply, Serves, hold_a
 use Rattle.sema_machines.specs.Holds.{ServesRelease, next_after, next_answer}
 use Rattle.sema_machines.specs.Holds.Hold.{Alone, ReleaseAndNext}
 use Rattle.sema_machines.specs.SemaRuns.{AreItsCalls, BeginsBy, CallOut, CallState, OpensWith}
-use Rattle.sema_machines.specs.SemaRuns.{account_in, call_does, call_goes_on, requests_of}
+use Rattle.sema_machines.specs.SemaRuns.{account_in, call_does, call_goes_on, idle, requests_of}
 use Rattle.sema_machines.specs.SemaRuns.{seat_at, seat_with}
 use Rattle.sema_machines.specs.SemaRuns.{seen_by, sema_system, with_act, with_hold, with_next}
 use Rattle.sema_machines.specs.SemaRuns.CallState.{Gives, Takes, Tries}
@@ -115,6 +116,16 @@ module _ (sema : Sema) (value rendez : ℕ) (starts : List CallState) (none : Ca
   begins_by pid (Tries number at) begins = begins.0
   begins_by pid (Gives count at) begins = tt
 
+  -- a process starts with a call by its own seat, or with none
+  pub starts_by : (pid : ℕ) → pid < sema.procs → IsBy pid (slice_index_or starts pid none)
+  starts_by pid low = by (are.begin pid low)
+    where
+      by : BeginsBy pid (slice_index_or starts pid none)
+          ⊎ (slice_index_or starts pid none ≡ idle)
+          → IsBy pid (slice_index_or starts pid none)
+      by (inl begins) = begins_by pid (slice_index_or starts pid none) begins
+      by (inr rests) = subst (IsBy pid) (sym rests) tt
+
   -- ---- the history
 
   -- these may be the requests of the processes
@@ -193,12 +204,12 @@ module _ (sema : Sema) (value rendez : ℕ) (starts : List CallState) (none : Ca
       is_by : IsBy step.by (own_in system step.by past).at
       is_by =
           acts_by step.by (slice_index_or starts step.by none)
-          (begins_by step.by (slice_index_or starts step.by none) (are.begin step.by below))
+          (starts_by step.by below)
           (acts_of step.by past)
 
       by : (act : Act Hold HoldReply) → HasLeft (requests_of past) (object_at system past)
           → IsAnswered system (world_at system past) (object_at system past) act
-          → IsNext system.machine step.by (system.own step.by) (own_in system step.by past) act
+          → IsNext system.machine step.by (own_in system step.by past) act
           → HasLeft (with_act step.by act (requests_of past))
           (object_by system (object_at system past) act)
       by (Asked hold replied) has answered is_next =
@@ -230,7 +241,7 @@ module _ (sema : Sema) (value rendez : ℕ) (starts : List CallState) (none : Ca
         record {
           opened = record {
             value = value;
-            fits = are.fits;
+            fits = are.fits.low;
             opening_is = opens.opening_is;
             limit = opens.limit;
           };
@@ -387,5 +398,5 @@ module _ (sema : Sema) (value rendez : ℕ) (starts : List CallState) (none : Ca
             (history_of past (front_of system step past of))
             (names_own sema pid (own_in system pid past).at hold
             (acts_by pid (slice_index_or starts pid none)
-            (begins_by pid (slice_index_or starts pid none) (are.begin pid low)) (acts_of pid past))
+            (starts_by pid low) (acts_of pid past))
             (last_of system step past of)) of.right.1.answered

@@ -370,7 +370,7 @@ module _ (sema : Sema) (value rendez : ℕ) (starts : List CallState) (none : Ca
         → IsToWake seat count at
         → count ≤ slice_index (levels_by levels (call_does sema at) grain) (sema.first + seat)
     wakes_so levels sized seat count low (Gives units (Waking sum other grants)) Went came is =
-        let row = are.row in
+        let row = are.fits.row in
         let place : sema.first + other < length levels = omega (arith, row, low, is.0, sized) in
         let all = max (slice_index levels (sema.first + other)) grants in
         let set : slice_index (slice_set levels (sema.first + other) all) (sema.first + other) ≡ all

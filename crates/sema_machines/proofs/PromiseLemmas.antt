@@ -1,6 +1,6 @@
 -- Each call that is over in a run of a semaphore's calls is as its contract says.
 use Rattle.std.proofs.Common.{◌≡◌, ◌<◌, ℕ, true, false, List, [], ◌∷◌, ◌++◌, length, Ok}
-use Rattle.std.proofs.Common.{Result, Err, refl, sym, ◌∙◌, ap, subst, arith}
+use Rattle.std.proofs.Common.{Result, Err, refl, sym, ◌∙◌, ap, subst}
 use Rattle.std.specs.Prelude.{slice_index_or}
 use Rattle.rendez_words.specs.declared.words.Words.{Words}
 use Rattle.sync_base.specs.declared.fault.Fault.{Fault}
@@ -9,7 +9,7 @@ use Rattle.semaphore.specs.declared.sema.Sema.{Sema}
 use Rattle.semaphore.specs.declared.sema.SemaSeat.{SemaSeat}
 use Rattle.semaphore.specs.Acquiring.{Semacquires}
 use Rattle.semaphore.specs.Releasing.{Releases}
-use Rattle.semaphore.specs.Seats.{IsSemaSeatOf, rendez_of_seat}
+use Rattle.semaphore.specs.Seats.{IsSemaSeatOf}
 use Rattle.semaphore.specs.Units.{SemaState}
 use Rattle.waiting.specs.Waiting.{Point}
 use Rattle.call_machines.specs.Machine.{Next}
@@ -25,7 +25,8 @@ use Rattle.sema_machines.specs.CallMachines.TryState.{Tried, Trying}
 use Rattle.sema_machines.specs.Holds.{Hold, HoldReply, Serves}
 use Rattle.sema_machines.specs.SemaRuns.{AcquiresInRuns, CallOut, CallState, HasGone, IsRunOf}
 use Rattle.sema_machines.specs.SemaRuns.{ReleasesInRuns, TriesInRuns, point_at}
-use Rattle.sema_machines.specs.SemaRuns.{requests_of, result_with, seat_at, sema_system}
+use Rattle.sema_machines.specs.SemaRuns.{requests_of, seat_at, sema_system}
+use Rattle.call_machines.specs.Machine.{result_with}
 use Rattle.sema_machines.specs.SemaRuns.{taken_unit}
 use Rattle.sema_machines.specs.SemaRuns.CallOut.{Sum, Taken}
 use Rattle.sema_machines.specs.SemaRuns.CallState.{Gives, Takes, Tries}
@@ -62,14 +63,14 @@ module _ (sema : Sema) (value rendez : ℕ) (starts : List CallState) (none : Ca
   is_played : (begin now : CallState) (answer : Result CallOut Fault)
       → HasGone sema value rendez starts none run pid begin now
       → Fine sema begin before.seat → system.machine.does now ≡ Next.Over answer
-      → Makes (Serves sema) (rendez_of_seat sema pid) system.machine
+      → Makes (Serves sema) system.machine
       (record { state = begin; at = before }) answer after
   is_played begin now answer gone fine over =
-      subst (λ (s : CallState). Makes (Serves sema) (rendez_of_seat sema pid) system.machine
+      subst (λ (s : CallState). Makes (Serves sema) system.machine
       (record { state = s; at = before }) answer after) gone.first
-      (subst (λ (r : List (Step Hold HoldReply)). Makes (Serves sema) (rendez_of_seat sema pid)
+      (subst (λ (r : List (Step Hold HoldReply)). Makes (Serves sema)
       system.machine from answer (point_at sema words pid r)) (append_nil run)
-      (is_play system (Serves sema) words run_is.kernel pid there row
+      (is_play system (Serves sema) words run_is.kernel pid there
       (λ r. seat_at sema pid (requests_of r))
       (knows_own sema value rendez starts none run_is.are run_is.opens pid run_is.low) [] refl may
       run
@@ -84,15 +85,12 @@ module _ (sema : Sema) (value rendez : ℕ) (starts : List CallState) (none : Ca
       there : pid < length starts
       there = subst (λ (m : ℕ). pid < m) (sym run_is.are.procs_are) run_is.low
 
-      row : (rendez_of_seat sema pid).0 < rendez
-      row = let all = run_is.are.row in let low = run_is.low in omega (arith, all, low)
-
       may : (times : ℕ) (at : MachinePoint CallState SemaSeat)
-          → Plays (Serves sema) (rendez_of_seat sema pid) system.machine times from at
+          → Plays (Serves sema) system.machine times from at
           → IsThereFor system (system.machine.does at.state)
       may times at plays =
-          is_there sema system run_is.are.row at.state at.at.seat
-          (fine_so sema (rendez_of_seat sema pid) times from at
+          is_there sema system run_is.are.fits.row at.state at.at.seat
+          (fine_so sema times from at
           (subst (λ (s : CallState). Fine sema s before.seat) (sym gone.first) fine) plays)
 
   same_unit : (one other : Result Unit Fault)
@@ -124,15 +122,15 @@ module _ (sema : Sema) (value rendez : ℕ) (starts : List CallState) (none : Ca
       (same_unit made.same answer made.is)
       ((acquires_are_plays sema before made.same after rests).1 made.makes)
     where
-      made : MakesInside (Serves sema) (rendez_of_seat sema pid) (acquire_machine pid)
+      made : MakesInside (Serves sema) (acquire_machine sema pid)
           system.machine (λ at. Takes pid at) taken_unit (λ at. refl) (λ at came. refl) Begun before
           (result_with taken_unit answer) after
       made =
-          makes_inside (Serves sema) (rendez_of_seat sema pid) (acquire_machine pid) system.machine
+          makes_inside (Serves sema) (acquire_machine sema pid) system.machine
           (λ at. Takes pid at) taken_unit (λ at. refl) (λ at came. refl) Begun before
           (result_with taken_unit answer) after
           (is_played (Takes pid Begun) (Takes pid (Over answer)) (result_with taken_unit answer)
-          gone (rests, refl) refl)
+          gone ((rests, refl), run_is.low) refl)
 
   try_is : (answer : Semacquired)
       → HasGone sema value rendez starts none run pid (Tries pid Trying)
@@ -143,11 +141,11 @@ module _ (sema : Sema) (value rendez : ℕ) (starts : List CallState) (none : Ca
       (same_try made.same answer made.is)
       ((tries_are_plays sema before made.same after rests).1 made.makes)
     where
-      made : MakesInside (Serves sema) (rendez_of_seat sema pid) (try_machine pid) system.machine
+      made : MakesInside (Serves sema) (try_machine pid) system.machine
           (λ at. Tries pid at) Taken (λ at. refl) (λ at came. refl) Trying before
           (Ok (Taken answer)) after
       made =
-          makes_inside (Serves sema) (rendez_of_seat sema pid) (try_machine pid) system.machine
+          makes_inside (Serves sema) (try_machine pid) system.machine
           (λ at. Tries pid at) Taken (λ at. refl) (λ at came. refl) Trying before
           (Ok (Taken answer)) after
           (is_played (Tries pid Trying) (Tries pid (Tried answer)) (Ok (Taken answer)) gone tt refl)
@@ -161,11 +159,11 @@ module _ (sema : Sema) (value rendez : ℕ) (starts : List CallState) (none : Ca
       (same_sum made.same answer made.is)
       ((releases_are_plays sema count before made.same after rests).1 made.makes)
     where
-      made : MakesInside (Serves sema) (rendez_of_seat sema pid) (release_machine sema count)
+      made : MakesInside (Serves sema) (release_machine sema count)
           system.machine (λ at. Gives count at) Sum (λ at. refl) (λ at came. refl) Releasing before
           (result_with Sum answer) after
       made =
-          makes_inside (Serves sema) (rendez_of_seat sema pid) (release_machine sema count)
+          makes_inside (Serves sema) (release_machine sema count)
           system.machine (λ at. Gives count at) Sum (λ at. refl) (λ at came. refl) Releasing before
           (result_with Sum answer) after
           (is_played (Gives count Releasing) (Gives count (Released answer))

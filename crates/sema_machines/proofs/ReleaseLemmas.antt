@@ -11,14 +11,13 @@ use Rattle.semaphore.specs.declared.sema_object.SemaReply.{SemaReply}
 use Rattle.semaphore.specs.declared.sema_object.SemaReply.TheVariants as reply
 use Rattle.semaphore.specs.Asking.{Asks, OnlyAsks, wake_reply}
 use Rattle.semaphore.specs.Releasing.{AsksNext, HasReleased, Releases, WakesNamed}
-use Rattle.semaphore.specs.Seats.{IsSemaSeatOf, rendez_at, rendez_of_seat}
+use Rattle.semaphore.specs.Seats.{IsSemaSeatOf, rendez_of_seat}
 use Rattle.semaphore.proofs.ReleaseLemmas.{HasNamed, asks_later}
 use Rattle.semaphore.proofs.TellLemmas.{next_never}
 use Rattle.sleep_wakeup.specs.Actions.{WakesOne}
 use Rattle.rendez_words.specs.Process.{Process}
 use Rattle.sync_base.specs.declared.fault.Fault.{Fault}
 use Rattle.sync_base.specs.declared.fault.Fault.TheVariants as fault
-use Rattle.sync_base.specs.declared.ids.RendezId.{RendezId}
 use Rattle.waiting.specs.Waiting.{Point}
 use Rattle.call_machines.specs.Machine.{Next, Outcome}
 use Rattle.call_machines.specs.Plays.{HasDone, MachinePoint, Makes, Plays}
@@ -40,9 +39,6 @@ Grant = ItemOf wake_reply
 
 module _ (sema : Sema) (count : ℕ) (before : Point SemaSeat)
     (rest : IsSemaSeatOf sema before.seat) where
-  abbrev rendez : RendezId
-  rendez = rendez_at sema before.seat
-
   abbrev start : MachinePoint ReleaseState SemaSeat
   start = record { state = Releasing; at = before }
 
@@ -182,7 +178,7 @@ module _ (sema : Sema) (count : ℕ) (before : Point SemaSeat)
       asks = alone sema NextWake r old.seat now.seat serves
 
   step : (at : ReleaseState) (came : Outcome HoldReply) (old now : Point SemaSeat) → Says at old
-      → HasDone (Serves sema) rendez (release_does sema count at) came old now
+      → HasDone (Serves sema) (release_does sema count at) came old now
       → Says (release_goes_on sema count at came) now
   step Releasing (Outcome.Replied r) old now same done =
       let so = subst (λ (o : Point SemaSeat). Serves sema (ReleaseAndNext count) r o.seat now.seat
@@ -201,7 +197,7 @@ module _ (sema : Sema) (count : ℕ) (before : Point SemaSeat)
   step at other old now says done = absurd done
 
   says : (times : ℕ) (now : MachinePoint ReleaseState SemaSeat)
-      → Plays (Serves sema) rendez (release_machine sema count) times start now
+      → Plays (Serves sema) (release_machine sema count) times start now
       → Says now.state now.at
   says zero now is =
       subst (λ (p : MachinePoint ReleaseState SemaSeat). Says p.state p.at) (sym is) refl
@@ -211,7 +207,7 @@ module _ (sema : Sema) (count : ℕ) (before : Point SemaSeat)
       (says times more.between more.before) more.done)
 
   is_release : (answer : Result ℕ Fault) (after : Point SemaSeat)
-      → Makes (Serves sema) rendez (release_machine sema count) start answer after
+      → Makes (Serves sema) (release_machine sema count) start answer after
       → Releases sema count before answer after
   is_release answer after makes =
       subst (Releases sema count before answer) (sym makes.after_is)
@@ -229,11 +225,11 @@ module _ (sema : Sema) (count : ℕ) (before : Point SemaSeat)
 
   record Comes (at : ReleaseState) (now : Point SemaSeat) : Type 0 where
     times : ℕ
-    plays : Plays (Serves sema) rendez (release_machine sema count) times start
+    plays : Plays (Serves sema) (release_machine sema count) times start
         (record { state = at; at = now })
 
   more : (at : ReleaseState) (came : Outcome HoldReply) (old now : Point SemaSeat) → Comes at old
-      → HasDone (Serves sema) rendez (release_does sema count at) came old now
+      → HasDone (Serves sema) (release_does sema count at) came old now
       → Comes (release_goes_on sema count at came) now
   more at came old now comes done =
       record {
@@ -251,7 +247,7 @@ module _ (sema : Sema) (count : ℕ) (before : Point SemaSeat)
   at_start = record { times = zero; plays = refl }
 
   whole : (answer : Result ℕ Fault) (after : Point SemaSeat) → Comes (Released answer) after
-      → Makes (Serves sema) rendez (release_machine sema count) start answer after
+      → Makes (Serves sema) (release_machine sema count) start answer after
   whole answer after comes =
       record {
         times = comes.times;
@@ -309,7 +305,7 @@ module _ (sema : Sema) (count : ℕ) (before : Point SemaSeat)
         between_rests : IsSemaSeatOf sema woken.between.seat
         between_rests = rests others woken.between woken.others
 
-    is_play_released : Makes (Serves sema) rendez (release_machine sema count) start (Ok sum) after
+    is_play_released : Makes (Serves sema) (release_machine sema count) start (Ok sum) after
     is_play_released =
         whole (Ok sum) after
         (comes_so has.wakes.grants has.wakes.last after reply.NoWake has.wakes.woken
@@ -318,7 +314,7 @@ module _ (sema : Sema) (count : ℕ) (before : Point SemaSeat)
 
   is_play : (answer : Result ℕ Fault) (after : Point SemaSeat)
       → Releases sema count before answer after
-      → Makes (Serves sema) rendez (release_machine sema count) start answer after
+      → Makes (Serves sema) (release_machine sema count) start answer after
   is_play (Ok sum) after has = is_play_released sum after has
   is_play (Err fault.BadArg) after asked =
       whole (Err fault.BadArg) after

@@ -10,7 +10,7 @@ use Rattle.semaphore.specs.declared.sema_object.SemaReply.{SemaReply}
 use Rattle.semaphore.specs.declared.sema_object.SemaReply.TheVariants as reply
 use Rattle.semaphore.specs.Acquiring.{Semacquires}
 use Rattle.semaphore.specs.Asking.{OnlyAsks, now_reply}
-use Rattle.semaphore.specs.Seats.{IsSemaSeatOf, rendez_at}
+use Rattle.semaphore.specs.Seats.{IsSemaSeatOf}
 use Rattle.semaphore.proofs.TellLemmas.{acquire_now_never}
 use Rattle.semaphore.proofs.UnitLemmas.{now_over}
 use Rattle.sync_base.specs.declared.fault.Fault.{Fault}
@@ -52,7 +52,7 @@ module _ (sema : Sema) (before : Point SemaSeat) (rest : IsSemaSeatOf sema befor
       (λ is. cc))
 
   step : (at : TryState) (came : Outcome HoldReply) (old now : Point SemaSeat) → Says at old
-      → HasDone (Serves sema) (rendez_at sema before.seat) (try_does number at) came old now
+      → HasDone (Serves sema) (try_does number at) came old now
       → Says (try_goes_on at came) now
   step Trying (Outcome.Replied r) old now same done =
       let at_first = subst (λ (o : Point SemaSeat).
@@ -63,7 +63,7 @@ module _ (sema : Sema) (before : Point SemaSeat) (rest : IsSemaSeatOf sema befor
   step at other old now says done = absurd done
 
   says : (times : ℕ) (now : MachinePoint TryState SemaSeat)
-      → Plays (Serves sema) (rendez_at sema before.seat) (try_machine number) times first now
+      → Plays (Serves sema) (try_machine number) times first now
       → Says now.state now.at
   says zero now is = subst (λ (p : MachinePoint TryState SemaSeat). Says p.state p.at) (sym is) refl
   says (suc times) now more =
@@ -72,7 +72,7 @@ module _ (sema : Sema) (before : Point SemaSeat) (rest : IsSemaSeatOf sema befor
       (says times more.between more.before) more.done)
 
   is_try : (answer : Result Semacquired Fault) (after : Point SemaSeat)
-      → Makes (Serves sema) (rendez_at sema before.seat) (try_machine number) first answer after
+      → Makes (Serves sema) (try_machine number) first answer after
       → Semacquires false sema before answer after
   is_try answer after makes =
       subst (Semacquires false sema before answer) (sym makes.after_is)
@@ -102,7 +102,7 @@ module _ (sema : Sema) (before : Point SemaSeat) (rest : IsSemaSeatOf sema befor
 
   is_play : (answer : Result Semacquired Fault) (after : Point SemaSeat)
       → Semacquires false sema before answer after
-      → Makes (Serves sema) (rendez_at sema before.seat) (try_machine number) first answer after
+      → Makes (Serves sema) (try_machine number) first answer after
   is_play (Ok got) after acquires =
       record {
         times = 1;

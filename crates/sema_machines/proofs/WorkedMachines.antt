@@ -13,7 +13,7 @@ use Rattle.semaphore.specs.Units.{SemaState, passed}
 use Rattle.semaphore.specs.Seats.{rendez_of_seat}
 use Rattle.waiting.specs.declared.call.Reply.TheVariants as wait_reply
 use Rattle.call_machines.specs.Machine.{Next, Outcome}
-use Rattle.call_machines.specs.WaitTables.WaitState.{Asking, Begun, Leaving}
+use Rattle.call_machines.specs.WaitTables.WaitState.{Asking, Begun, Leaving, Waits}
 use Rattle.sema_machines.specs.CallMachines.{acquire_machine, acquired, at_again, at_first}
 use Rattle.sema_machines.specs.CallMachines.{at_leave}
 use Rattle.sema_machines.specs.CallMachines.{release_does, release_goes_on, try_does, try_goes_on}
@@ -26,14 +26,20 @@ use Rattle.sema_machines.proofs.HoldLemmas.{replied_alone}
 
 -- ---- a semacquire that waits
 
-begins : (acquire_machine 4).does Begun ≡ Next.Ask (Alone (Acquire 4))
-begins = refl
+begins : (sema : Sema) → (acquire_machine sema 4).does Begun ≡ Next.Ask (Alone (Acquire 4))
+begins sema = refl
 
-asks_for_its_unit : (acquire_machine 4).does Asking ≡ Next.Ask (Alone (Collect 4))
-asks_for_its_unit = refl
+sleeps_in_its_rendez : (sema : Sema)
+    → (acquire_machine sema 4).does (Waits 7) ≡ Next.Sleep (rendez_of_seat sema 4) 7
+sleeps_in_its_rendez sema = refl
 
-leaves : (acquire_machine 4).does (Leaving fault.DoubleSleep) ≡ Next.Ask (Alone (Leave 4))
-leaves = refl
+asks_for_its_unit : (sema : Sema)
+    → (acquire_machine sema 4).does Asking ≡ Next.Ask (Alone (Collect 4))
+asks_for_its_unit sema = refl
+
+leaves : (sema : Sema)
+    → (acquire_machine sema 4).does (Leaving fault.DoubleSleep) ≡ Next.Ask (Alone (Leave 4))
+leaves sema = refl
 
 has_a_unit : at_first reply.Acquired ≡ wait_reply.Done tt
 has_a_unit = refl

@@ -13,7 +13,7 @@ use Rattle.semaphore.specs.declared.sema_object.SemaReply.{SemaReply}
 use Rattle.semaphore.specs.declared.sema_object.SemaReply.TheVariants as reply
 use Rattle.semaphore.specs.Acquiring.{Semacquires, number_of}
 use Rattle.semaphore.specs.Releasing.{Releases}
-use Rattle.semaphore.specs.Seats.{IsSemaSeatOf, rendez_at, rendez_of_seat}
+use Rattle.semaphore.specs.Seats.{IsSemaSeatOf, rendez_of_seat}
 use Rattle.waiting.specs.declared.call.Reply.{Reply as WaitReply}
 use Rattle.waiting.specs.declared.call.Reply.TheVariants as wait_reply
 use Rattle.waiting.specs.Waiting.{Point}
@@ -54,8 +54,9 @@ acquire_table seat =
       left = λ replied. at_leave replied.first;
     }
 
-abbrev pub acquire_machine : ℕ → Machine (WaitState Unit) Hold HoldReply Unit
-acquire_machine seat = machine_of (acquire_table seat)
+-- it waits in the Rendez of its seat
+abbrev pub acquire_machine : Sema → ℕ → Machine (WaitState Unit) Hold HoldReply Unit
+acquire_machine sema seat = machine_of (acquire_table seat) (rendez_of_seat sema seat)
 
 -- ---- a semacquire that does not wait
 
@@ -129,7 +130,7 @@ AcquiresArePlays =
     (sema : Sema) (before : Point SemaSeat) (answer : Result Unit Fault) (after : Point SemaSeat)
     → IsSemaSeatOf sema before.seat
     → Semacquires true sema before (acquired answer) after
-    ↔ Makes (Serves sema) (rendez_at sema before.seat) (acquire_machine (number_of before.seat))
+    ↔ Makes (Serves sema) (acquire_machine sema (number_of before.seat))
     (record { state = Begun; at = before }) answer after
 
 -- So does that of one that does not wait.
@@ -139,7 +140,7 @@ TriesArePlays =
     (after : Point SemaSeat)
     → IsSemaSeatOf sema before.seat
     → Semacquires false sema before answer after
-    ↔ Makes (Serves sema) (rendez_at sema before.seat) (try_machine (number_of before.seat))
+    ↔ Makes (Serves sema) (try_machine (number_of before.seat))
     (record { state = Trying; at = before }) answer after
 
 -- And that of a semrelease.
@@ -149,5 +150,5 @@ ReleasesArePlays =
     (after : Point SemaSeat)
     → IsSemaSeatOf sema before.seat
     → Releases sema count before answer after
-    ↔ Makes (Serves sema) (rendez_at sema before.seat) (release_machine sema count)
+    ↔ Makes (Serves sema) (release_machine sema count)
     (record { state = Releasing; at = before }) answer after

@@ -1,6 +1,7 @@
 -- Runs of a semaphore's calls: each process makes one call, by its own seat.
-use Rattle.std.specs.Prelude.{◌≡◌, ◌≤◌, ◌<◌, ◌+◌, ◌-◌, ◌==◌, ℕ, true, false, if◌then◌else◌, Option}
-use Rattle.std.specs.Prelude.{Some, None, List, [], ◌∷◌, length, slice_index_or, Result, Ok, Err}
+use Rattle.std.specs.Prelude.{◌≡◌, ◌⊎◌, ◌≤◌, ◌<◌, ◌+◌, ◌-◌, ◌==◌, ℕ, true, false, if◌then◌else◌}
+use Rattle.std.specs.Prelude.{Option}
+use Rattle.std.specs.Prelude.{Some, None, List, [], ◌∷◌, length, slice_index_or, Result, Ok}
 use Rattle.histories.specs.declared.account.Account.{Account}
 use Rattle.histories.specs.Account.{numbers_from}
 use Rattle.histories.specs.History.{entries_by}
@@ -23,10 +24,9 @@ use Rattle.semaphore.specs.Acquiring.{Semacquires}
 use Rattle.semaphore.specs.Definitions.{sema_definition}
 use Rattle.semaphore.specs.Releasing.{Releases}
 use Rattle.semaphore.specs.SemaHistory.{SemaEntry}
-use Rattle.semaphore.specs.Seats.{rendez_of_seat}
 use Rattle.semaphore.specs.Units.{SemaState, opening}
 use Rattle.waiting.specs.Waiting.{Point}
-use Rattle.call_machines.specs.Machine.{Next, Outcome}
+use Rattle.call_machines.specs.Machine.{Next, Outcome, next_with}
 use Rattle.call_machines.specs.Runs.{Act, IsOfCalls, Step, System, own_in}
 use Rattle.call_machines.specs.Runs.Act.{Asked, Made}
 use Rattle.call_machines.specs.WaitTables.{WaitState}
@@ -53,30 +53,17 @@ pub data CallOut : Type 0 where
   Taken : Semacquired → CallOut
   Sum : ℕ → CallOut
 
--- the same, with another result
-abbrev pub result_with : {Out Other : Type 0} → (Out → Other) → Result Out Fault
-    → Result Other Fault
-result_with out (Ok answer) = Ok (out answer)
-result_with out (Err why) = Err why
-
-abbrev pub next_with : {Request Out Other : Type 0} → (Out → Other) → Next Request Out
-    → Next Request Other
-next_with out (Next.Ask request) = Next.Ask request
-next_with out (Next.Sleep number) = Next.Sleep number
-next_with out (Next.Wake rendez level) = Next.Wake rendez level
-next_with out (Next.Return set) = Next.Return set
-next_with out (Next.Over answer) = Next.Over (result_with out answer)
-
 abbrev pub taken_unit : Unit {0} → CallOut
 taken_unit unit = Taken got.Acquired
 
 abbrev pub call_does : Sema → CallState → Next Hold CallOut
-call_does sema (Takes seat at) = next_with taken_unit ((acquire_machine seat).does at)
-call_does sema (Tries seat at) = next_with Taken (try_does seat at)
-call_does sema (Gives count at) = next_with Sum (release_does sema count at)
+call_does sema (Takes seat at) =
+    next_with (λ hold. hold) taken_unit ((acquire_machine sema seat).does at)
+call_does sema (Tries seat at) = next_with (λ hold. hold) Taken (try_does seat at)
+call_does sema (Gives count at) = next_with (λ hold. hold) Sum (release_does sema count at)
 
 abbrev pub call_goes_on : Sema → CallState → Outcome HoldReply → CallState
-call_goes_on sema (Takes seat at) came = Takes seat ((acquire_machine seat).goes_on at came)
+call_goes_on sema (Takes seat at) came = Takes seat ((acquire_machine sema seat).goes_on at came)
 call_goes_on sema (Tries seat at) came = Tries seat (try_goes_on at came)
 call_goes_on sema (Gives count at) came =
     Gives count (release_goes_on sema count at came)
@@ -91,7 +78,6 @@ sema_system sema value rendez starts none =
       after = hold_after;
       opening = opening value sema.procs 0;
       rendez = rendez;
-      own = rendez_of_seat sema;
       starts = starts;
       none = none;
     }
@@ -102,14 +88,22 @@ BeginsBy pid (Takes seat at) = (seat ≡ pid) × (at ≡ Begun)
 BeginsBy pid (Tries seat at) = (seat ≡ pid) × (at ≡ Trying)
 BeginsBy pid (Gives count at) = at ≡ Releasing
 
--- each process makes one call of the semaphore, by a seat of its own; the value may be its first
--- one, and its row of Rendez is in the world
+-- the value may be the first one of the semaphore, and its row of Rendez is in the world
+pub record Fits (sema : Sema) (value rendez : ℕ) : Type 0 where
+  pub low : value ≤ MAX_VALUE
+  pub row : sema.first + sema.procs ≤ rendez
+
+-- a process with no call under way
+abbrev pub idle : CallState
+idle = Gives 0 (Released (Ok 0))
+
+-- each process makes one call of the semaphore, by a seat of its own, or none
 pub record AreItsCalls (sema : Sema) (value rendez : ℕ) (starts : List CallState)
     (none : CallState) : Type 0 where
-  pub fits : value ≤ MAX_VALUE
+  pub fits : Fits sema value rendez
   pub procs_are : length starts ≡ sema.procs
-  pub row : sema.first + sema.procs ≤ rendez
-  pub begin : (pid : ℕ) → pid < sema.procs → BeginsBy pid (slice_index_or starts pid none)
+  pub begin : (pid : ℕ) → pid < sema.procs
+      → BeginsBy pid (slice_index_or starts pid none) ⊎ (slice_index_or starts pid none ≡ idle)
 
 -- the lock of the semaphore was opened with this value, for as many seats
 pub record OpensWith (sema : Sema) (value : ℕ) : Type 0 where

@@ -26,13 +26,13 @@ pub fn calls_in_runs_are_as_promised()
 {}
 
 /// Where no process goes on, nobody waits who was granted a unit; and who is woken before that asks
-/// in vain. So no run of the calls deadlocks, if each run at the grain of calls that comes to where
-/// each process has made its calls or waits without a unit has made all calls. Runs need not be
-/// looked at in which a sleep is refused, or a wait ends well before its unit is granted.
-pub fn units_are_due()
-    ensures due { UnitsAreDue }
-    ensures vain { WaitsAskInVain }
-    ensures ends { SemaphoreEndsHold }
+/// in vain. So no run of the calls deadlocks, if in each run at the grain of calls that comes to
+/// where each process has ended or waits without a unit all have ended. Runs need not be looked at
+/// in which a sleep is refused, or a wait ends well before its unit is granted.
+pub fn units_are_due<P>()
+    ensures due { UnitsAreDue P }
+    ensures vain { WaitsAskInVain P }
+    ensures ends { SemaphoreEndsHold P }
 {
     who_is_granted_is_released();
     states_are_sound();

@@ -42,7 +42,20 @@ module _ (space : TagSpace) (offered : Offered) (first : Point Member)
   number = number_of first.seat
 
   abbrev rendez : RendezId
-  rendez = first.seat.rendez
+  rendez = rendez_of_member space number
+
+  -- the member has no other Rendez
+  its_own : first.seat.rendez ≡ rendez
+  its_own = ap (λ (n : ℕ). record { 0 = n }) rest.one.rendez
+
+  -- a rendezvous with its wait there
+  abbrev MeetsThere : Result ℕ Fault → Point Member → Type 0
+  MeetsThere answer after = Waited (meeting space offered) rendez first answer after
+
+  there : (answer : Result ℕ Fault) (after : Point Member)
+      → Meets space offered first answer after → MeetsThere answer after
+  there answer after =
+      subst (λ (r : RendezId). Waited (meeting space offered) r first answer after) its_own
 
   abbrev table : WaitTable GroupCall GroupReply ℕ
   table = meet_table number offered
@@ -50,22 +63,22 @@ module _ (space : TagSpace) (offered : Offered) (first : Point Member)
   -- what the wait plays whose call finds nobody
   abbrev PlaysAlone : ℕ → WaitState ℕ → Point Member → Type 0
   PlaysAlone times at now =
-      Plays (ServesAlone space) rendez (machine_of table) times
+      Plays (ServesAlone space) (machine_of table rendez) times
       (record { state = Begun; at = first }) (record { state = at; at = now })
 
   -- what the machine of the rendezvous plays
   abbrev PlaysSo : ℕ → MeetState → Point Member → Type 0
   PlaysSo times at now =
-      Plays (Requests space) rendez (meet_machine space number offered) times
+      Plays (Requests space) (meet_machine space number offered) times
       (record { state = Calls Begun; at = first }) (record { state = at; at = now })
 
   -- both ways of a call that finds nobody
   alone_both : (answer : Result ℕ Fault) (after : Point Member)
-      → (Makes (ServesAlone space) rendez (machine_of table)
+      → (Makes (ServesAlone space) (machine_of table rendez)
       (record { state = Begun; at = first }) answer after
       → Waited (alone space offered) rendez first answer after)
       × (Waited (alone space offered) rendez first answer after
-      → Makes (ServesAlone space) rendez (machine_of table)
+      → Makes (ServesAlone space) (machine_of table rendez)
       (record { state = Begun; at = first }) answer after)
   alone_both answer after =
       let both = waits_are_plays table (alone space offered) (ServesAlone space)
@@ -76,18 +89,20 @@ module _ (space : TagSpace) (offered : Offered) (first : Point Member)
   -- ---- a call that finds nobody, in the machine of the rendezvous
 
   served : (request : Next GroupCall ℕ) (came : Outcome GroupReply) (old new : Point Member)
-      → HasDone (ServesAlone space) rendez request came old new
-      → HasDone (Requests space) rendez request came old new
+      → HasDone (ServesAlone space) request came old new
+      → HasDone (Requests space) request came old new
   served (Next.Ask call) (Outcome.Replied told) old new done = (done.0.0, done.1)
-  served (Next.Sleep count) (Outcome.Slept (Ok unit)) old new done = done
-  served (Next.Sleep count) (Outcome.Slept (Err why)) old new done = done
+  served (Next.Sleep place count) (Outcome.Slept (Ok unit)) old new done = done
+  served (Next.Sleep place count) (Outcome.Slept (Err why)) old new done = done
   served (Next.Wake other level) Outcome.Went old new done = done
   served (Next.Return set) Outcome.Went old new done = done
+  served (Next.Post pid set) Outcome.Went old new done = done
+  served Next.Drain (Outcome.Took set) old new done = done
   served request came old new done = absurd done
 
   -- where it finds nobody it goes on as the wait does
   goes_alone : (at : WaitState ℕ) (came : Outcome GroupReply) (old new : Point Member)
-      → HasDone (ServesAlone space) rendez (does table at) came old new
+      → HasDone (ServesAlone space) (does table rendez at) came old new
       → Calls (goes_on table at came) ≡ meet_goes_on space number offered (Calls at) came
   goes_alone Begun (Outcome.Replied (group.Met given other count)) old new done =
       absurd done.0.1
@@ -98,6 +113,7 @@ module _ (space : TagSpace) (offered : Offered) (first : Point Member)
   goes_alone Begun (Outcome.Replied group.Busy) old new done = refl
   goes_alone Begun (Outcome.Slept ended) old new done = absurd done
   goes_alone Begun Outcome.Went old new done = absurd done
+  goes_alone Begun (Outcome.Took set) old new done = absurd done
   goes_alone (Waits count) came old new done = refl
   goes_alone Asking came old new done = refl
   goes_alone (Leaving why) came old new done = refl
@@ -113,7 +129,8 @@ module _ (space : TagSpace) (offered : Offered) (first : Point Member)
         between = record { state = Calls more.between.state; at = more.between.at };
         before = carried times more.between more.before;
         came = more.came;
-        done = served (does table more.between.state) more.came more.between.at now.at more.done;
+        done = served (does table rendez more.between.state) more.came more.between.at now.at
+            more.done;
         goes_on = ap (λ (s : WaitState ℕ). Calls s) more.goes_on
             ∙ goes_alone more.between.state more.came more.between.at now.at more.done;
       }
@@ -156,7 +173,7 @@ module _ (space : TagSpace) (offered : Offered) (first : Point Member)
       → PlaysMeeting space offered first answer after
   alone_is_play answer after waited = by ((alone_both answer after).1 waited)
     where
-      by : Makes (ServesAlone space) rendez (machine_of table)
+      by : Makes (ServesAlone space) (machine_of table rendez)
           (record { state = Begun; at = first }) answer after
           → PlaysMeeting space offered first answer after
       by makes =
@@ -170,7 +187,7 @@ module _ (space : TagSpace) (offered : Offered) (first : Point Member)
 
   -- each such call is played by the machine
   pub is_play : (answer : Result ℕ Fault) (after : Point Member)
-      → Meets space offered first answer after → PlaysMeeting space offered first answer after
+      → MeetsThere answer after → PlaysMeeting space offered first answer after
   is_play (Ok given) after (inl finds) = found_is_play given after finds
   is_play (Err why) after (inl refused) = alone_is_play (Err why) after (inl (refused, tt))
   is_play answer after (inr waits) =
@@ -205,7 +222,7 @@ module _ (space : TagSpace) (offered : Offered) (first : Point Member)
   left_over why None is = cc
 
   never_again : (at : WaitState ℕ) (came : Outcome GroupReply) (old new : Point Member)
-      → HasDone (Requests space) rendez (does table at) came old new
+      → HasDone (Requests space) (does table rendez at) came old new
       → goes_on table at came ≡ Begun → ⊥
   never_again Begun (Outcome.Replied told) old new done is = first_over (called told) is
   never_again Asking (Outcome.Replied told) old new done is = first_over (collected told) is
@@ -218,7 +235,7 @@ module _ (space : TagSpace) (offered : Offered) (first : Point Member)
   -- one step more of a call that finds nobody
   step_alone : (times : ℕ) (at : WaitState ℕ) (came : Outcome GroupReply) (old new : Point Member)
       → PlaysAlone times at old
-      → HasDone (ServesAlone space) rendez (does table at) came old new
+      → HasDone (ServesAlone space) (does table rendez at) came old new
       → Says (suc times) (meet_goes_on space number offered (Calls at) came) new
   step_alone times at came old new plays done =
       subst (λ (s : MeetState). Says (suc times) s new) (goes_alone at came old new done) (
@@ -229,12 +246,13 @@ module _ (space : TagSpace) (offered : Offered) (first : Point Member)
           done = done;
           goes_on = refl;
         },
-        λ again. absurd (never_again at came old new (served (does table at) came old new done)
+        λ again. absurd (never_again at came old new
+            (served (does table rendez at) came old new done)
             again),
       )
 
   step : (times : ℕ) (at : MeetState) (came : Outcome GroupReply) (old new : Point Member)
-      → Says times at old → HasDone (Requests space) rendez (meet_does space number offered at) came
+      → Says times at old → HasDone (Requests space) (meet_does space number offered at) came
       old new → Says (suc times) (meet_goes_on space number offered at came) new
   step times (Calls Begun) (Outcome.Replied (group.Met given other count)) old new says done =
       subst (λ (o : Point Member). Requests space (Call number offered.tag offered.value)
@@ -287,7 +305,7 @@ module _ (space : TagSpace) (offered : Offered) (first : Point Member)
   -- a wait whose call found nobody is a wait
   alone_meets : (answer : Result ℕ Fault) (after : Point Member)
       → Waited (alone space offered) rendez first answer after
-      → Meets space offered first answer after
+      → MeetsThere answer after
   alone_meets answer after (inl begun) = inl begun.0
   alone_meets answer after (inr waits) =
       inr (record {
@@ -298,14 +316,14 @@ module _ (space : TagSpace) (offered : Offered) (first : Point Member)
       })
 
   meets : (answer : Result ℕ Fault) (after : Point Member)
-      → PlaysMeeting space offered first answer after → Meets space offered first answer after
+      → PlaysMeeting space offered first answer after → MeetsThere answer after
   meets answer after makes =
-      subst (Meets space offered first answer) (sym makes.after_is)
+      subst (MeetsThere answer) (sym makes.after_is)
       (by makes.last.state (says makes.times makes.last makes.plays) makes.over)
     where
       by : (at : MeetState) → Says makes.times at makes.last.at
           → meet_does space number offered at ≡ Next.Over answer
-          → Meets space offered first answer makes.last.at
+          → MeetsThere answer makes.last.at
       by (Calls at) so over =
           alone_meets answer makes.last.at ((alone_both answer makes.last.at).0 (record {
             times = makes.times;
@@ -316,7 +334,7 @@ module _ (space : TagSpace) (offered : Offered) (first : Point Member)
           }))
       by (Woke given) finds over =
           let same : ◌≡◌ {A = Result ℕ Fault} (Ok given) answer = cc in
-          subst (λ (a : Result ℕ Fault). Meets space offered first a makes.last.at) same
+          subst (λ (a : Result ℕ Fault). MeetsThere a makes.last.at) same
           (inl finds)
       by (Waking found) so over = absurd cc
 
@@ -324,7 +342,7 @@ module _ (space : TagSpace) (offered : Offered) (first : Point Member)
 
   -- its member rests after it
   rests_after : (answer : Result ℕ Fault) (after : Point Member)
-      → Meets space offered first answer after → IsMemberOf space after.seat
+      → MeetsThere answer after → IsMemberOf space after.seat
   rests_after (Ok given) after (inl finds) =
       has_called space first.seat after.seat offered.tag offered.value
       (group.Met given finds.other finds.count) rest finds.requested
@@ -355,10 +373,12 @@ module _ (space : TagSpace) (offered : Offered) (first : Point Member)
       → PlaysMeeting space offered first answer after
       → Rendezvouses space offered first answer after
   rendezvouses answer after makes =
-      let waited = meets answer after makes in
-      let so = came space offered first.seat rest rendez first.process answer after waited in
+      let waited = subst (λ (r : RendezId). Waited (meeting space offered) r first answer after)
+      (sym its_own) (meets answer after makes) in
+      let so = came space offered first.seat rest first.seat.rendez first.process answer after
+      waited in
       record {
-        member = rests_after answer after waited;
+        member = rests_after answer after (meets answer after makes);
         same = so.same;
         exchange = so.exchange;
         waited = waited;
@@ -367,7 +387,8 @@ module _ (space : TagSpace) (offered : Offered) (first : Point Member)
 -- a rendezvous by its machine, both ways
 pub rendezvouses_are_plays : RendezvousesArePlays
 rendezvouses_are_plays space offered before answer after rest = (
-  λ is. is_play space offered before rest answer after is.waited,
+  λ is. is_play space offered before rest answer after
+      (there space offered before rest answer after is.waited),
   λ makes. rendezvouses space offered before rest answer after makes,
 )
 
@@ -377,7 +398,8 @@ words_are_plays space offered before told after rest = (
   λ is. record {
     answer = is.answer;
     told_is = is.told_is;
-    plays = is_play space offered before rest is.answer after is.waited;
+    plays = is_play space offered before rest is.answer after
+        (there space offered before rest is.answer after is.waited);
   },
   λ is. let so = rendezvouses space offered before rest is.answer after is.plays in
       record {

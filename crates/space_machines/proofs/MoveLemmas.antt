@@ -25,8 +25,7 @@ use Rattle.call_machines.proofs.CoarseLemmas.{ComesOf}
 use Rattle.space_machines.specs.MeetMachine.{MeetState, left, meet_does, meet_goes_on}
 use Rattle.space_machines.specs.MeetMachine.MeetState.{Calls, Waking, Woke}
 use Rattle.space_machines.specs.SpaceEnds.{is_met}
-use Rattle.space_machines.specs.SpaceRuns.{AreItsCalls, MemberCall}
-use Rattle.space_machines.specs.SpaceRuns.{space_system}
+use Rattle.space_machines.specs.SpaceRuns.{HasRoom, MemberCall, space_calls}
 use Rattle.space_machines.proofs.PlaceLemmas.{Fits, IsLeft, IsMetBy, IsNotMet, WaitsWithCount}
 use Rattle.space_machines.proofs.PlaceLemmas.{collect_finds_nobody, leave_finds_nobody, left_of}
 use Rattle.space_machines.proofs.PlaceLemmas.{waits_again, waits_first}
@@ -78,10 +77,9 @@ rightly_later (Calls (Over answer)) was now left rightly = tt
 rightly_later (Waking found) was now left rightly = tt
 rightly_later (Woke given) was now left rightly = tt
 
-module _ (space : TagSpace) (rendez : ℕ) (starts : List MemberCall) (none : MemberCall)
-    (rests : List (List MemberCall)) (are : AreItsCalls space rendez starts none rests) where
+module _ (space : TagSpace) (rendez procs : ℕ) (room : HasRoom space rendez procs) where
   abbrev system : System MemberCall GroupCall GroupReply ℕ (List Place)
-  system = space_system space rendez starts none
+  system = space_calls space rendez procs
 
   module _ (places : List Place) (notes : NoteSet) where
     abbrev Comes : Next GroupCall ℕ → Grain GroupCall GroupReply → Type 0
@@ -303,7 +301,7 @@ module _ (space : TagSpace) (rendez : ℕ) (starts : List MemberCall) (none : Me
         → count ≤ slice_index (levels_by levels (meet_does space own offered s) grain)
         (space.first.0 + member)
     wakes_so levels sized member count own low offered (Waking found) Went came is =
-        let row = are.row in
+        let row = room.row in
         let place : space.first.0 + found.other < length levels =
         omega (arith, row, low, is.0, sized) in
         let all = max (slice_index levels (space.first.0 + found.other)) found.count in

@@ -58,7 +58,7 @@ module _ (space : TagSpace) (set : NoteSet) where
   calls : at (Calls Begun) ≡ Next.Ask (Call 4 (record { 0 = 7 }) 10)
   calls = refl
 
-  sleeps : at (Calls (Waits 5)) ≡ Next.Sleep 5
+  sleeps : at (Calls (Waits 5)) ≡ Next.Sleep (rendez_of_member space 4) 5
   sleeps = refl
 
   asks_whether_it_was_met : at (Calls Asking) ≡ Next.Ask (Collect 4)

@@ -1,7 +1,7 @@
 -- Runs of rendezvous, computed: a wait that a partner ends, and the deadlock of two calls with two
 -- tags.
-use Rattle.std.proofs.Common.{◌≡◌, ◌<◌, inr, ℕ, zero, suc, List, [], ◌∷◌, Ok, refl}
-use Rattle.std.proofs.Common.{arith}
+use Rattle.std.proofs.Common.{◌≡◌, ◌<◌, inr, ℕ, zero, suc, Option, Some, None, List, [], ◌∷◌, map}
+use Rattle.std.proofs.Common.{true, false, refl, subst, arith}
 use Rattle.std.specs.List.{AllByRecursion}
 use Rattle.std.specs.Prelude.{slice_index_or}
 use Rattle.std.proofs.lemmas.Bool.{false≢true}
@@ -24,18 +24,19 @@ use Rattle.tag_space.specs.GroupObject as object
 use Rattle.call_machines.specs.Ends.{HasStopped, NoRunDeadlocks}
 use Rattle.call_machines.specs.Grain.{coarse_of, moves_of}
 use Rattle.call_machines.specs.GrainEnds.{IsObjectStuck}
-use Rattle.call_machines.specs.Programs.{Program}
+use Rattle.call_machines.specs.Programs.{ComesTo, Listed, ProgramState, list_program, listed}
+use Rattle.call_machines.specs.Programs.ProgramState.{Ended, In}
 use Rattle.call_machines.specs.Runs.{IsOfCalls, Step, System}
 use Rattle.call_machines.specs.Runs.Act.{Asked, Made}
 use Rattle.call_machines.specs.Schedules.{position_of, run_of}
 use Rattle.call_machines.specs.StrictRuns.{NeverStrictlyStuck}
-use Rattle.call_machines.specs.WaitTables.WaitState.{Begun, Over, Waits}
+use Rattle.call_machines.specs.WaitTables.WaitState.{Begun, Waits}
 use Rattle.call_machines.proofs.GrainLemmas.{runs_are_moves}
 use Rattle.call_machines.proofs.ScheduleLemmas.{schedules_are_runs}
 use Rattle.space_machines.specs.MeetMachine.{MeetState}
-use Rattle.space_machines.specs.MeetMachine.MeetState.{Calls, Woke}
-use Rattle.space_machines.specs.SpaceEnds.{GoesOn}
-use Rattle.space_machines.specs.SpaceRuns.{AreItsCalls, BeginsBy, MemberCall, calls_in}
+use Rattle.space_machines.specs.MeetMachine.MeetState.{Calls}
+use Rattle.space_machines.specs.SpaceEnds.{AreItsPrograms, GoesOn, calls_in, goes_on}
+use Rattle.space_machines.specs.SpaceRuns.{BeginsBy, MemberCall}
 
 module _ (lock : Locked (List Place) GroupCall GroupReply) (limited : limit_of lock ≡ 2)
     (opened : opening_of object.group lock ≡ object.opening 2 0) where
@@ -61,19 +62,19 @@ module _ (lock : Locked (List Place) GroupCall GroupReply) (limited : limit_of l
         at = at;
       }
 
-  -- a process that makes no other call
-  abbrev only : MemberCall → Program MemberCall
-  only call = record { at = call; rest = [] }
+  -- where a process is that makes calls one after the other: in this one, with these to come
+  abbrev Stand : Type 0
+  Stand = ProgramState (Listed MemberCall) MemberCall
 
-  abbrev none : MemberCall
-  none = call 2 0 0 (Woke 0)
+  abbrev starts_at : List MemberCall → Option (Listed MemberCall)
+  starts_at calls = listed calls
 
   abbrev Calls2 : Type 0
-  Calls2 = System (Program MemberCall) GroupCall GroupReply ℕ (List Place)
+  Calls2 = System Stand GroupCall GroupReply Unit (List Place)
 
-  -- two processes that make calls at the space: first these, and then those
-  abbrev calls_of : List MemberCall → List (List MemberCall) → Calls2
-  calls_of starts rests = calls_in space 2 starts none rests
+  -- two processes that make these calls at the space
+  abbrev calls_of : List (List MemberCall) → Calls2
+  calls_of calls = calls_in space 2 list_program (map starts_at calls)
 
   abbrev proc : ℕ → Pid
   proc pid = record { 0 = pid }
@@ -90,7 +91,7 @@ module _ (lock : Locked (List Place) GroupCall GroupReply) (limited : limit_of l
   -- ---- one waits, and the other finds it
 
   abbrev they_meet : Calls2
-  they_meet = calls_of (call 0 7 10 (Calls Begun) ∷ call 1 7 20 (Calls Begun) ∷ []) []
+  they_meet = calls_of ((call 0 7 10 (Calls Begun) ∷ []) ∷ (call 1 7 20 (Calls Begun) ∷ []) ∷ [])
 
   abbrev its_schedule : List ℕ
   its_schedule = 0 ∷ 0 ∷ 0 ∷ 1 ∷ 1 ∷ 1 ∷ 1 ∷ 0 ∷ 0 ∷ 0 ∷ []
@@ -109,9 +110,8 @@ module _ (lock : Locked (List Place) GroupCall GroupReply) (limited : limit_of l
       ∷ []
   its_run = refl
 
-  -- each has the value of the other
-  its_states : (position_of they_meet its_schedule).states
-      ≡ only (call 0 7 10 (Calls (Over (Ok 20)))) ∷ only (call 1 7 20 (Woke 10)) ∷ []
+  -- both calls are over
+  its_states : (position_of they_meet its_schedule).states ≡ Ended ∷ Ended ∷ []
   its_states = refl
 
   -- the wakeup left its level at the grain of calls
@@ -127,58 +127,95 @@ module _ (lock : Locked (List Place) GroupCall GroupReply) (limited : limit_of l
       ≡ record { state = Met 20; meetings = 1 } ∷ record { state = Idle; meetings = 0 } ∷ []
   met_early_is = refl
 
-  first_goes_on : GoesOn met_early 0
+  first_goes_on : goes_on met_early (call 0 7 10 (Calls (Waits 0))) ≡ true
   first_goes_on = refl
 
-  second_does_not : GoesOn met_early 1 → ⊥
-  second_does_not goes = false≢true goes
+  second_does_not : goes_on met_early (call 1 7 20 (Calls (Waits 0))) ≡ false
+  second_does_not = refl
 
   -- ---- two calls each
 
-  abbrev first_calls : List MemberCall
-  first_calls = call 0 7 10 (Calls Begun) ∷ call 1 7 20 (Calls Begun) ∷ []
+  abbrev calls_of_first : List MemberCall
+  calls_of_first = call 0 7 10 (Calls Begun) ∷ call 0 8 11 (Calls Begun) ∷ []
 
-  abbrev second_calls : List (List MemberCall)
-  second_calls =
-      (call 0 8 11 (Calls Begun) ∷ []) ∷ (call 1 8 21 (Calls Begun) ∷ []) ∷ []
+  abbrev calls_of_second : List MemberCall
+  calls_of_second = call 1 7 20 (Calls Begun) ∷ call 1 8 21 (Calls Begun) ∷ []
 
   -- the next call of a process begins where the one before it is over
   abbrev they_meet_twice : Calls2
-  they_meet_twice = calls_of first_calls second_calls
+  they_meet_twice = calls_of (calls_of_first ∷ calls_of_second ∷ [])
+
+  abbrev last_call : MemberCall → Stand
+  last_call now = In (record { at = call 1 8 21 (Calls Begun); rest = [] }) now
 
   -- the one that was found last finds the other at the second tag
-  their_states : (position_of they_meet_twice (1 ∷ 1 ∷ 1 ∷ 0 ∷ 0 ∷ 0 ∷ 0 ∷ 0 ∷ 0 ∷ 0 ∷ 1 ∷ 1 ∷ 1
+  their_states : (position_of they_meet_twice (1 ∷ 0 ∷ 0 ∷ 0 ∷ 0 ∷ 0 ∷ 0 ∷ 0 ∷ 1 ∷ 1 ∷ 1
       ∷ 1 ∷ 1 ∷ 1 ∷ 1 ∷ 0 ∷ 0 ∷ 0 ∷ [])).states
-      ≡ only (call 0 8 11 (Woke 21)) ∷ only (call 1 8 21 (Calls (Over (Ok 11)))) ∷ []
+      ≡ Ended ∷ last_call (call 1 8 21 (Calls (Waits 0))) ∷ []
   their_states = refl
 
-  -- these are calls of the space, those of each process by its own member
-  are_its_calls : AreItsCalls space 2 first_calls none second_calls
-  are_its_calls =
-      record { procs_are = omega arith; row = omega arith; begin = begin; later = later }
-    where
-      begin : (pid : ℕ) → pid < 2 → BeginsBy pid (slice_index_or first_calls pid none)
-      begin zero low = record { member_is = refl; begins = refl }
-      begin (suc zero) low = record { member_is = refl; begins = refl }
-      begin (suc (suc pid)) low = let two : suc (suc pid) < 2 = low in absurd (omega arith)
+  both_end : (position_of they_meet_twice (1 ∷ 1 ∷ 1 ∷ 0 ∷ 0 ∷ 0 ∷ 0 ∷ 0 ∷ 0 ∷ 0 ∷ 1 ∷ 1 ∷ 1
+      ∷ 1 ∷ 1 ∷ 1 ∷ 1 ∷ 0 ∷ 0 ∷ 0 ∷ [])).states
+      ≡ Ended ∷ Ended ∷ []
+  both_end = refl
 
-      later : (pid : ℕ) → pid < 2
-          → AllByRecursion (BeginsBy pid) (slice_index_or second_calls pid [])
-      later zero low = (record { member_is = refl; begins = refl }, tt)
-      later (suc zero) low = (record { member_is = refl; begins = refl }, tt)
-      later (suc (suc pid)) low = let two : suc (suc pid) < 2 = low in absurd (omega arith)
+  -- these are programs of the space: each call begins, by the member of its process
+  are_its_programs : AreItsPrograms space 2 list_program
+      (starts_at calls_of_first ∷ starts_at calls_of_second ∷ [])
+  are_its_programs =
+      record {
+        room = record { members = omega arith; row = omega arith };
+        begin = λ pid calls place comes. (all pid calls place comes).0;
+      }
+    where
+      by_own : (pid : ℕ) (call : MemberCall) → call.member ≡ pid → call.at ≡ Calls Begun
+          → BeginsBy pid call
+      by_own pid call own begins = record { member_is = own; begins = begins }
+
+      of : (pid : ℕ) (calls : List MemberCall) → AllByRecursion (BeginsBy pid) calls
+          → (place : Listed MemberCall) → listed calls ≡ Some place
+          → BeginsBy pid place.at × AllByRecursion (BeginsBy pid) place.rest
+      of pid [] begin place is = absurd cc
+      of pid (first ∷ rest) begin place is =
+          let same : ◌≡◌ {A = Listed MemberCall} (record { at = first; rest = rest }) place = cc in
+          subst (λ (p : Listed MemberCall). BeginsBy pid p.at
+          × AllByRecursion (BeginsBy pid) p.rest) same begin
+
+      first_of : (pid : ℕ) (place : Listed MemberCall)
+          → slice_index_or (starts_at calls_of_first ∷ starts_at calls_of_second ∷ []) pid None
+          ≡ Some place
+          → BeginsBy pid place.at × AllByRecursion (BeginsBy pid) place.rest
+      first_of zero place is =
+          of 0 calls_of_first (by_own 0 _ refl refl, (by_own 0 _ refl refl, tt)) place is
+      first_of (suc zero) place is =
+          of 1 calls_of_second (by_own 1 _ refl refl, (by_own 1 _ refl refl, tt)) place is
+      first_of (suc (suc pid)) place is = absurd cc
+
+      all : (pid calls : ℕ) (place : Listed MemberCall)
+          → ComesTo (list_program {Out = ℕ})
+          (slice_index_or (starts_at calls_of_first ∷ starts_at calls_of_second ∷ []) pid None)
+          calls place
+          → BeginsBy pid place.at × AllByRecursion (BeginsBy pid) place.rest
+      all pid zero place comes = first_of pid place comes
+      all pid (suc calls) place comes =
+          of pid comes.before.rest (all pid calls comes.before comes.comes).1 place comes.follows
 
   -- ---- a deadlock
 
+  abbrev only : MemberCall → Listed MemberCall
+  only call = record { at = call; rest = [] }
+
   -- two wait, each with a tag of its own
   abbrev two_wait : Calls2
-  two_wait = calls_of (call 0 7 10 (Calls Begun) ∷ call 1 8 20 (Calls Begun) ∷ []) []
+  two_wait = calls_of ((call 0 7 10 (Calls Begun) ∷ []) ∷ (call 1 8 20 (Calls Begun) ∷ []) ∷ [])
 
   abbrev both_asleep : List (Step GroupCall GroupReply)
   both_asleep = run_of two_wait (1 ∷ 1 ∷ 1 ∷ 0 ∷ 0 ∷ 0 ∷ [])
 
   both_wait : (position_of two_wait (1 ∷ 1 ∷ 1 ∷ 0 ∷ 0 ∷ 0 ∷ [])).states
-      ≡ only (call 0 7 10 (Calls (Waits 0))) ∷ only (call 1 8 20 (Calls (Waits 0))) ∷ []
+      ≡ In (only (call 0 7 10 (Calls Begun))) (call 0 7 10 (Calls (Waits 0)))
+      ∷ In (only (call 1 8 20 (Calls Begun))) (call 1 8 20 (Calls (Waits 0)))
+      ∷ []
   both_wait = refl
 
   zero_there : 0 < 2
@@ -205,9 +242,21 @@ module _ (lock : Locked (List Place) GroupCall GroupReply) (limited : limit_of l
   both_are_stuck : IsObjectStuck two_wait GoesOn
       (coarse_of two_wait (moves_of two_wait both_asleep))
   both_are_stuck zero low =
-      inr (record { number = 0; does = refl; none = refl; stays = λ goes. false≢true goes })
+      inr (record {
+        rendez = rendez 0;
+        number = 0;
+        does = refl;
+        none = refl;
+        stays = λ goes. false≢true goes;
+      })
   both_are_stuck (suc zero) low =
-      inr (record { number = 0; does = refl; none = refl; stays = λ goes. false≢true goes })
+      inr (record {
+        rendez = rendez 1;
+        number = 0;
+        does = refl;
+        none = refl;
+        stays = λ goes. false≢true goes;
+      })
   both_are_stuck (suc (suc pid)) low = let two : suc (suc pid) < 2 = low in absurd (omega arith)
 
   told_by_the_space : NeverStrictlyStuck two_wait GoesOn → ⊥

@@ -65,7 +65,7 @@ pub data MeetState : Type 0 where
 
 module _ (space : TagSpace) (member : ℕ) (offered : Offered) where
   abbrev pub meet_does : MeetState → Next GroupCall ℕ
-  meet_does (Calls at) = does (meet_table member offered) at
+  meet_does (Calls at) = does (meet_table member offered) (rendez_of_member space member) at
   meet_does (Waking found) = Next.Wake (rendez_of_member space found.other) found.count
   meet_does (Woke given) = Next.Over (Ok given)
 
@@ -94,8 +94,7 @@ pub record Rendezvouses (space : TagSpace) (offered : Offered) (before : Point M
 abbrev pub PlaysMeeting : TagSpace → Offered → Point Member → Result ℕ Fault → Point Member
     → Type 0
 PlaysMeeting space offered before answer after =
-    Makes (Requests space) before.seat.rendez
-    (meet_machine space (number_of before.seat) offered)
+    Makes (Requests space) (meet_machine space (number_of before.seat) offered)
     (record { state = Calls Begun; at = before }) answer after
 
 -- The contract of a rendezvous holds if and only if its machine plays so.

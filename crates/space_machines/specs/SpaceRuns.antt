@@ -1,19 +1,16 @@
--- Runs of rendezvous in one space: each process makes calls one after the other, by its own member.
-use Rattle.std.specs.Prelude.{◌≡◌, ◌≤◌, ◌<◌, ◌+◌, ℕ, List, [], length, slice_index_or}
-use Rattle.std.specs.List.{AllByRecursion}
+-- The calls of rendezvous in one space, each by a member of it.
+use Rattle.std.specs.Prelude.{◌≡◌, ◌≤◌, ◌+◌, ℕ, List, replicate}
 use Rattle.tag_space.specs.declared.calls.GroupCall.{GroupCall}
 use Rattle.tag_space.specs.declared.calls.GroupReply.{GroupReply}
 use Rattle.tag_space.specs.declared.place.Place.{Place}
 use Rattle.tag_space.specs.declared.space.TagSpace.{TagSpace}
 use Rattle.tag_space.specs.GroupObject.{answer_to, opening, places_after}
-use Rattle.tag_space.specs.Members.{rendez_of_member}
 use Rattle.tag_space.specs.Rendezvous.{Offered}
 use Rattle.call_machines.specs.Machine.{Machine, Next, Outcome}
-use Rattle.call_machines.specs.Programs.{Program, program_system}
 use Rattle.call_machines.specs.Runs.{System}
 use Rattle.call_machines.specs.WaitTables.WaitState.{Begun}
 use Rattle.space_machines.specs.MeetMachine.{MeetState, meet_does, meet_goes_on}
-use Rattle.space_machines.specs.MeetMachine.MeetState.{Calls}
+use Rattle.space_machines.specs.MeetMachine.MeetState.{Calls, Woke}
 
 -- where a call is: the member that makes it, what it offers, and the state of its machine
 pub record MemberCall : Type 0 where
@@ -42,7 +39,6 @@ module _ (space : TagSpace) where
         after = places_after;
         opening = opening space.procs 0;
         rendez = rendez;
-        own = rendez_of_member space;
         starts = starts;
         none = none;
       }
@@ -52,18 +48,15 @@ pub record BeginsBy (pid : ℕ) (call : MemberCall) : Type 0 where
   pub member_is : call.member ≡ pid
   pub begins : call.at ≡ Calls Begun
 
--- each process makes these calls in the space, one after the other, by a member of its own; the row
--- of Rendez is in the world
-pub record AreItsCalls (space : TagSpace) (rendez : ℕ) (starts : List MemberCall)
-    (none : MemberCall) (rests : List (List MemberCall)) : Type 0 where
-  pub procs_are : length starts ≤ space.procs
+-- the space has a member for each of so many processes, and its row of Rendez is in the world
+pub record HasRoom (space : TagSpace) (rendez procs : ℕ) : Type 0 where
+  pub members : procs ≤ space.procs
   pub row : space.first.0 + space.procs ≤ rendez
-  pub begin : (pid : ℕ) → pid < length starts → BeginsBy pid (slice_index_or starts pid none)
-  pub later : (pid : ℕ) → pid < length starts
-      → AllByRecursion (BeginsBy pid) (slice_index_or rests pid [])
 
--- the system of the processes that make them
-abbrev pub calls_in : TagSpace → ℕ → List MemberCall → MemberCall → List (List MemberCall)
-    → System (Program MemberCall) GroupCall GroupReply ℕ (List Place)
-calls_in space rendez starts none rests =
-    program_system (space_system space rendez starts none) rests
+-- a process with no call under way
+abbrev pub idle : MemberCall
+idle = record { member = 0; offered = record { tag = record { 0 = 0 }; value = 0 }; at = Woke 0 }
+
+-- the calls of so many processes in a space, of which none is under way at first
+abbrev pub space_calls : TagSpace → ℕ → ℕ → System MemberCall GroupCall GroupReply ℕ (List Place)
+space_calls space rendez procs = space_system space rendez (replicate procs idle) idle

@@ -10,11 +10,11 @@ pub fn calls_are_plays()
 {}
 
 /// Where no process goes on, nobody waits whose call was met; and who is woken before that asks in
-/// vain. So no run of the calls deadlocks, if each run at the grain of calls that comes to where
-/// each process has made its calls or waits without a partner has made all calls. Runs need not be
-/// looked at in which a sleep is refused, or a wait ends well before its call was met.
-pub fn meetings_are_due()
-    ensures due { MeetingsAreDue }
-    ensures vain { WaitsAskInVain }
-    ensures ends { SpaceEndsHold }
+/// vain. So no run of the calls deadlocks, if in each run at the grain of calls that comes to
+/// where each process has ended or waits without a partner all have ended. Runs need not be looked
+/// at in which a sleep is refused, or a wait ends well before its call was met.
+pub fn meetings_are_due<P>()
+    ensures due { MeetingsAreDue P }
+    ensures vain { WaitsAskInVain P }
+    ensures ends { SpaceEndsHold P }
 {}

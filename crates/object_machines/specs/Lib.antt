@@ -1,0 +1,3 @@
+pub mod ObjectCalls
+pub mod ObjectEnds
+pub mod OwnCalls
