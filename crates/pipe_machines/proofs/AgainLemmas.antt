@@ -25,7 +25,7 @@ use Rattle.pipe_machines.specs.PipeRuns.{CallOut, CallState, DirectionState, aft
 use Rattle.pipe_machines.specs.PipeRuns.{call_goes_on, part_after}
 use Rattle.pipe_machines.specs.PipeRuns.{part_told, pipe_calls, same, told_put}
 use Rattle.pipe_machines.specs.PipeRuns.CallOut.{HungUp}
-use Rattle.pipe_machines.specs.PipeRuns.CallState.{Blocks, Hangs, Reads, Writes}
+use Rattle.pipe_machines.specs.PipeRuns.CallState.{Blocks, Hangs, Reads, TriesToRead, Writes}
 use Rattle.pipe_machines.specs.ReadMachine.{FillState, after_part, fill_does, read_try}
 use Rattle.pipe_machines.specs.Requests.{PipeReply, PipeRequest}
 use Rattle.pipe_machines.specs.Requests.PipeRequest.{NextBlock, NextPart, Put}
@@ -35,7 +35,7 @@ use Rattle.pipe_machines.specs.WriteMachine.{after_put as state_after_put}
 use Rattle.pipe_machines.proofs.DirectionLemmas.{PutCase, ReadCase, put_case, read_case}
 use Rattle.pipe_machines.proofs.DirectionLemmas.PutCase.{IsFull, IsHungup, IsTaken, IsWorn}
 use Rattle.pipe_machines.proofs.DirectionLemmas.ReadCase.{IsEnd, IsNotYet, OfRest, Takes}
-use Rattle.pipe_machines.proofs.SleepLemmas.{fill_sleeps, same_room, sleeps_by}
+use Rattle.pipe_machines.proofs.SleepLemmas.{fill_sleeps, same_room, sleeps_by, tries_awake}
 
 -- a direction with no room is as it was, and tells so
 full_again : (d : DirectionState) (writer : ℕ) (bytes : List ℕ)
@@ -246,6 +246,8 @@ module _ (limit : ℕ) (row : Row) (rendez procs : ℕ) (d : DirectionState) whe
       let sleeps = fill_sleeps limit row buffer at there number is in
       read_again buffer at number sleeps.told
       (is ∙ ap (λ (r : RendezId). Next.Sleep r number) sleeps.its_own)
+  asks_again (TriesToRead buffer at) there number is =
+      absurd (tries_awake limit row buffer at there number is)
   asks_again (Blocks (TryState.Tries (BlockState.Told (reply.Wait n)))) there number is =
       block_again n
   asks_again (Blocks (TryState.Tries (BlockState.WakingWriters woken waked count))) there number

@@ -12,6 +12,7 @@ use Rattle.sync_base.specs.declared.limits.TheConstants.{TOP_LEVEL}
 use Rattle.sync_base.specs.declared.note.NoteSet.{NoteSet}
 use Rattle.block_queue.specs.QueueObject.{last_number, new_kept}
 use Rattle.pipe_dev.specs.declared.answers.ReadAnswer.{ReadAnswer}
+use Rattle.pipe_dev.specs.declared.answers.TryAnswer.{TryAnswer}
 use Rattle.pipe_dev.specs.declared.row.Row.{Row}
 use Rattle.waiting.specs.declared.call.Reply.{Reply as WaitReply}
 use Rattle.waiting.specs.declared.call.Reply.TheVariants as reply
@@ -31,7 +32,7 @@ use Rattle.pipe_machines.specs.PipeEnds.{LeavesUnworn, PipeEndsHold, PipeRestsHo
 use Rattle.pipe_machines.specs.PipeEnds.{WakeupsOfPipesAreDue, goes_on}
 use Rattle.pipe_machines.specs.PipeRuns.{BeginsBy, CallOut, CallState, DirectionState, HasRoom}
 use Rattle.pipe_machines.specs.PipeRuns.{call_does, call_goes_on, idle, pipe_calls}
-use Rattle.pipe_machines.specs.PipeRuns.CallState.{Blocks, Hangs, Reads, Writes}
+use Rattle.pipe_machines.specs.PipeRuns.CallState.{Blocks, Hangs, Reads, TriesToRead, Writes}
 use Rattle.pipe_machines.specs.ReadMachine.{FillState}
 use Rattle.pipe_machines.specs.Requests.{PipeReply, PipeRequest}
 use Rattle.pipe_machines.specs.Tries.{TryState}
@@ -95,6 +96,12 @@ module _ (limit : ℕ) (was now : DirectionState)
   rightly_later (Reads buffer (TryState.Tries at)) keeps rightly =
       let kept = keeps tt in fill_later kept.0 kept.1 at buffer rightly
   rightly_later (Reads buffer (TryState.Fails why)) keeps rightly = tt
+  rightly_later (TriesToRead buffer (FillState.Filling count (Some n))) keeps rightly =
+      let kept = keeps tt in is_read kept.0 kept.1 n rightly
+  rightly_later (TriesToRead buffer (FillState.Filling count None)) keeps rightly = tt
+  rightly_later (TriesToRead buffer (FillState.WakingWriters woken n out)) keeps rightly = tt
+  rightly_later (TriesToRead buffer (FillState.Told (Ok out))) keeps rightly = tt
+  rightly_later (TriesToRead buffer (FillState.Told (Err why))) keeps rightly = tt
   rightly_later (Blocks (TryState.Tries at)) keeps rightly =
       let kept = keeps tt in block_later kept.0 kept.1 at rightly
   rightly_later (Blocks (TryState.Fails why)) keeps rightly = tt
@@ -104,6 +111,7 @@ module _ (limit : ℕ) (was now : DirectionState)
 reads_by_first : (pid : ℕ) (call : CallState) → IsBy pid call → IsReading call → pid ≡ 0
 reads_by_first pid (Writes writer bytes at) by reads = absurd reads
 reads_by_first pid (Reads buffer at) by reads = by
+reads_by_first pid (TriesToRead buffer at) by reads = by
 reads_by_first pid (Blocks at) by reads = by
 reads_by_first pid (Hangs seat at) by reads = absurd reads
 
@@ -111,6 +119,7 @@ reads_by_first pid (Hangs seat at) by reads = absurd reads
 begins_by : (pid : ℕ) (call : CallState) → BeginsBy pid call → IsBy pid call
 begins_by pid (Writes writer bytes at) begins = begins.0
 begins_by pid (Reads buffer at) begins = begins.0
+begins_by pid (TriesToRead buffer at) begins = begins.0
 begins_by pid (Blocks at) begins = begins.0
 begins_by pid (Hangs seat at) begins = tt
 
@@ -122,6 +131,9 @@ begins_rightly limit d pid (Writes writer bytes at) begins =
 begins_rightly limit d pid (Reads buffer at) begins =
     subst (λ (s : TryState (FillState (WaitReply ReadAnswer))).
     WaitsRightly limit d (Reads buffer s)) (sym begins.2) tt
+begins_rightly limit d pid (TriesToRead buffer at) begins =
+    subst (λ (s : FillState TryAnswer). WaitsRightly limit d (TriesToRead buffer s))
+    (sym begins.2) tt
 begins_rightly limit d pid (Blocks at) begins =
     subst (λ (s : TryState BlockState). WaitsRightly limit d (Blocks s)) (sym begins.1) tt
 begins_rightly limit d pid (Hangs seat at) begins = tt
@@ -306,6 +318,7 @@ module _ (limit : ℕ) (row : Row) (rendez procs : ℕ) (room : HasRoom row rend
             → IsBy move.by (call_goes_on limit row call (outcome_by move.grain))
         by (Writes writer bytes s) own = own
         by (Reads buffer s) own = own
+        by (TriesToRead buffer s) own = own
         by (Blocks s) own = own
         by (Hangs seat s) own = tt
 

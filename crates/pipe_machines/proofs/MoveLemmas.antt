@@ -18,6 +18,8 @@ use Rattle.block_queue.specs.declared.queue_object.QueueReply.TheVariants as que
 use Rattle.block_queue.specs.QueueObject.{Contents, last_number, put_reply}
 use Rattle.pipe_dev.specs.declared.answers.ReadAnswer.{ReadAnswer}
 use Rattle.pipe_dev.specs.declared.answers.ReadAnswer.TheVariants as read
+use Rattle.pipe_dev.specs.declared.answers.TryAnswer.{TryAnswer}
+use Rattle.pipe_dev.specs.declared.filling.ReadOutcome.{ReadOutcome}
 use Rattle.pipe_dev.specs.declared.filling.Stop.TheVariants as stop
 use Rattle.pipe_dev.specs.declared.row.Row.{Row}
 use Rattle.pipe_dev.specs.ReadCalls.{came_to}
@@ -35,9 +37,10 @@ use Rattle.pipe_machines.specs.HangMachine.{HangState}
 use Rattle.pipe_machines.specs.PipeRuns.{CallOut, CallState, DirectionState, after_put, call_does}
 use Rattle.pipe_machines.specs.PipeRuns.{call_goes_on, direction_after, direction_told, left_of}
 use Rattle.pipe_machines.specs.PipeRuns.{pipe_calls, same, told_put}
-use Rattle.pipe_machines.specs.PipeRuns.CallOut.{HasRead, HungUp}
-use Rattle.pipe_machines.specs.PipeRuns.CallState.{Blocks, Hangs, Reads, Writes}
+use Rattle.pipe_machines.specs.PipeRuns.CallOut.{HasRead, HasTried, HungUp}
+use Rattle.pipe_machines.specs.PipeRuns.CallState.{Blocks, Hangs, Reads, TriesToRead, Writes}
 use Rattle.pipe_machines.specs.ReadMachine.{FillState, after_part, came_so, filled_to, read_try}
+use Rattle.pipe_machines.specs.ReadMachine.{tried_of}
 use Rattle.pipe_machines.specs.Requests.{PipeReply, PipeRequest}
 use Rattle.pipe_machines.specs.Requests.PipeRequest.{Hang, NextBlock, NextPart, Put, Stand}
 use Rattle.pipe_machines.specs.Tries.{TryState, does_so, goes_so}
@@ -57,7 +60,8 @@ IsPutToWake i level (PutState.Standing number) = (i ≡ 0) × (level ≤ number)
 IsPutToWake i level (PutState.WakingReader number) = (i ≡ 0) × (level ≤ number)
 IsPutToWake i level other = ⊥
 
-abbrev IsFillToWake : {Out : Type 0} → ℕ → ℕ → FillState Out → Type 0
+-- a read that is to wake the writers, whether it waits or not
+abbrev pub IsFillToWake : {Out : Type 0} → ℕ → ℕ → FillState Out → Type 0
 IsFillToWake i level (FillState.Filling count (Some number)) = (0 < i) × (level ≤ number)
 IsFillToWake i level (FillState.Filling count None) = ⊥
 IsFillToWake i level (FillState.WakingWriters woken number out) = (woken < i) × (level ≤ number)
@@ -79,6 +83,7 @@ IsToWake i level (Writes writer bytes (TryState.Tries at)) = IsPutToWake i level
 IsToWake i level (Writes writer bytes (TryState.Fails why)) = ⊥
 IsToWake i level (Reads buffer (TryState.Tries at)) = IsFillToWake i level at
 IsToWake i level (Reads buffer (TryState.Fails why)) = ⊥
+IsToWake i level (TriesToRead buffer at) = IsFillToWake i level at
 IsToWake i level (Blocks (TryState.Tries at)) = IsBlockToWake i level at
 IsToWake i level (Blocks (TryState.Fails why)) = ⊥
 IsToWake i level (Hangs seat at) = IsHangToWake i level at
@@ -103,12 +108,18 @@ abbrev OutRightly : DirectionState → WaitReply ReadAnswer → Type 0
 OutRightly d (reply.Wait number) = IsRead d number
 OutRightly d other = ⊤
 
-abbrev FillRightly : DirectionState → FillState (WaitReply ReadAnswer) → Type 0
-FillRightly d (FillState.Filling count (Some number)) = IsRead d number
-FillRightly d (FillState.Filling count None) = ⊤
-FillRightly d (FillState.WakingWriters woken number out) = OutRightly d out
-FillRightly d (FillState.Told (Ok out)) = OutRightly d out
-FillRightly d (FillState.Told (Err why)) = ⊤
+-- a read that does not wait is never told to
+abbrev TriedRightly : DirectionState → TryAnswer → Type 0
+TriedRightly d got = ⊤
+
+-- where its answers are right by this
+abbrev FillRightly : {Out : Type 0} → (DirectionState → Out → Type 0) → DirectionState
+    → FillState Out → Type 0
+FillRightly IsRight d (FillState.Filling count (Some number)) = IsRead d number
+FillRightly IsRight d (FillState.Filling count None) = ⊤
+FillRightly IsRight d (FillState.WakingWriters woken number out) = IsRight d out
+FillRightly IsRight d (FillState.Told (Ok out)) = IsRight d out
+FillRightly IsRight d (FillState.Told (Err why)) = ⊤
 
 abbrev BlockRightly : DirectionState → BlockState → Type 0
 BlockRightly d (BlockState.Told out) = OutRightly d out
@@ -121,7 +132,8 @@ PutRightly limit d other = ⊤
 -- a call that was told to wait was told so rightly
 abbrev pub WaitsRightly : ℕ → DirectionState → CallState → Type 0
 WaitsRightly limit d (Writes writer bytes (TryState.Tries at)) = PutRightly limit d at
-WaitsRightly limit d (Reads buffer (TryState.Tries at)) = FillRightly d at
+WaitsRightly limit d (Reads buffer (TryState.Tries at)) = FillRightly OutRightly d at
+WaitsRightly limit d (TriesToRead buffer at) = FillRightly TriedRightly d at
 WaitsRightly limit d (Blocks (TryState.Tries at)) = BlockRightly d at
 WaitsRightly limit d other = ⊤
 
@@ -129,6 +141,7 @@ WaitsRightly limit d other = ⊤
 abbrev pub IsReading : CallState → Type 0
 IsReading (Writes writer bytes at) = ⊥
 IsReading (Reads buffer at) = ⊤
+IsReading (TriesToRead buffer at) = ⊤
 IsReading (Blocks at) = ⊤
 IsReading (Hangs seat at) = ⊥
 
@@ -338,23 +351,29 @@ module _ (limit : ℕ) (row : Row) (d : DirectionState) (fits : Fits limit d.kep
           let all = length-take-le (size - count) bytes (omega (arith, above)) in
           absurd (omega (arith, low, all))
 
-  module _ (buffer : List ℕ) where
-    abbrev size : ℕ
-    size = length buffer
-
-    abbrev fills : FillState (WaitReply ReadAnswer) → CallState
-    fills at = Reads buffer (TryState.Tries at)
-
-    abbrev next_fill : ℕ → Option ℕ → PipeReply → FillState (WaitReply ReadAnswer)
-    next_fill count last told = after_part row size found_of count last told
+  -- a call that fills a buffer of this size, with answers that are right
+  module _ {Out : Type 0} (size : ℕ) (told_of : ReadOutcome → Out)
+      (IsRight : DirectionState → Out → Type 0)
+      (enough_is : (after : DirectionState) (count : ℕ)
+      → IsRight after (told_of (came_to count stop.Enough)))
+      (wait_is : (count : ℕ) → d.rest ≡ None
+      → IsRight d (told_of (came_to count (stop.NotYet d.kept.taken_out))))
+      (end_is : (count : ℕ) → IsRight d (told_of (came_to count stop.End)))
+      (fills : FillState Out → CallState) (reads : (at : FillState Out) → IsReading (fills at))
+      (rightly : (after : DirectionState) (at : FillState Out) → FillRightly IsRight after at
+      → WaitsRightly limit after (fills at))
+      (wakes : (i level : ℕ) (at : FillState Out) → IsFillToWake i level at
+      → IsToWake i level (fills at)) where
+    abbrev next_fill : ℕ → Option ℕ → PipeReply → FillState Out
+    next_fill count last told = after_part row size told_of count last told
 
     abbrev further : ℕ → Bool
     further count = by_mode row.mode false (nat_lt count size)
 
     filled_so : (after : DirectionState) (b : Bool) (count : ℕ)
-        → WaitsRightly limit after (fills (filled_to row size found_of b count None))
+        → FillRightly IsRight after (filled_to row size told_of b count None)
     filled_so after true count = tt
-    filled_so after false count = tt
+    filled_so after false count = enough_is after count
 
     part_moves : (count : ℕ) (last : Option ℕ) (told : PipeReply) (after : DirectionState)
         → ReadCase d (size - count) told after
@@ -362,55 +381,79 @@ module _ (limit : ℕ) (row : Row) (d : DirectionState) (fits : Fits limit d.kep
     part_moves count last told after (OfRest left some more told_is kept_is) =
         subst (λ (t : PipeReply). MovesTo after (fills (FillState.Filling count last))
         (fills (next_fill count last t))) (sym told_is)
-        (of_same after (fills (FillState.Filling count last)) _ kept_is tt
-        (filled_so after (further (count + more)) (count + more)))
+        (of_same after (fills (FillState.Filling count last)) _ kept_is (reads _)
+        (rightly after _ (filled_so after (further (count + more)) (count + more))))
     part_moves count last told after (Takes write writes waiting told_is kept_is rest_is) =
         subst (λ (t : PipeReply). MovesTo after (fills (FillState.Filling count last))
         (fills (next_fill count last t))) (sym told_is)
         (by (further (count + length (take (size - count) write.bytes))) refl)
       where
-        number : ℕ
-        number = d.kept.taken_out + 1
-
         now : ℕ
         now = count + length (take (size - count) write.bytes)
 
         by : (b : Bool) → further (count + length (take (size - count) write.bytes)) ≡ b
             → MovesTo after (fills (FillState.Filling count last))
-            (fills (filled_to row size found_of b
+            (fills (filled_to row size told_of b
             (count + length (take (size - count) write.bytes)) (Some (d.kept.taken_out + 1))))
         by true on =
-            took write writes waiting after (fills (FillState.Filling count last)) _ kept_is tt
-            (record {
+            took write writes waiting after (fills (FillState.Filling count last)) _ kept_is
+            (reads _)
+            (rightly after (FillState.Filling now (Some (d.kept.taken_out + 1))) (record {
               number_is = sym (ap (λ (k : Contents). k.taken_out) kept_is);
               none = rest_is ∙ no_rest row.mode size count write.bytes on;
-            })
-            (λ w. (omega arith, omega arith))
+            }))
+            (λ w. wakes (suc w) (d.kept.taken_out + 1)
+            (FillState.Filling now (Some (d.kept.taken_out + 1))) (omega arith, omega arith))
         by false enough =
-            took write writes waiting after (fills (FillState.Filling count last)) _ kept_is tt tt
-            (λ w. (omega arith, omega arith))
+            let at : FillState Out = FillState.WakingWriters 0 (d.kept.taken_out + 1)
+            (told_of (came_to now stop.Enough)) in
+            took write writes waiting after (fills (FillState.Filling count last)) _ kept_is
+            (reads _) (rightly after at (enough_is after now))
+            (λ w. wakes (suc w) (d.kept.taken_out + 1) at (omega arith, omega arith))
     part_moves count last told after (IsNotYet none told_is after_is) =
         subst (λ (t : PipeReply). MovesTo after (fills (FillState.Filling count last))
         (fills (next_fill count last t))) (sym told_is)
         (subst (λ (s : DirectionState). MovesTo s (fills (FillState.Filling count last))
         (fills (next_fill count last (PipeReply.NotYet d.kept.taken_out)))) (sym after_is)
-        (stays (fills (FillState.Filling count last)) _ (by last)))
+        (stays (fills (FillState.Filling count last)) _ (rightly d _ (by last))))
       where
-        by : (last : Option ℕ) → WaitsRightly limit d
-            (fills (came_so row size found_of last (came_to count (stop.NotYet d.kept.taken_out))))
-        by None = found_wait count none
-        by (Some number) = found_wait count none
+        by : (last : Option ℕ) → FillRightly IsRight d
+            (came_so row size told_of last (came_to count (stop.NotYet d.kept.taken_out)))
+        by None = wait_is count none
+        by (Some number) = wait_is count none
     part_moves count last told after (IsEnd told_is after_is) =
         subst (λ (t : PipeReply). MovesTo after (fills (FillState.Filling count last))
         (fills (next_fill count last t))) (sym told_is)
         (subst (λ (s : DirectionState). MovesTo s (fills (FillState.Filling count last))
         (fills (next_fill count last PipeReply.End))) (sym after_is)
-        (stays (fills (FillState.Filling count last)) _ (by last)))
+        (stays (fills (FillState.Filling count last)) _ (rightly d _ (by last))))
       where
-        by : (last : Option ℕ) → WaitsRightly limit d
-            (fills (came_so row size found_of last (came_to count stop.End)))
-        by None = found_end count
-        by (Some number) = found_end count
+        by : (last : Option ℕ) → FillRightly IsRight d
+            (came_so row size told_of last (came_to count stop.End))
+        by None = end_is count
+        by (Some number) = end_is count
+
+  -- so a read that waits, and one that does not
+  module _ (buffer : List ℕ) where
+    abbrev fills : FillState (WaitReply ReadAnswer) → CallState
+    fills at = Reads buffer (TryState.Tries at)
+
+    read_moves : (count : ℕ) (last : Option ℕ) (told : PipeReply) (after : DirectionState)
+        → ReadCase d (length buffer - count) told after
+        → MovesTo after (fills (FillState.Filling count last))
+        (fills (after_part row (length buffer) found_of count last told))
+    read_moves =
+        part_moves (length buffer) found_of OutRightly (λ after count. tt) found_wait found_end
+        fills (λ at. tt) (λ after at right. right) (λ i level at wake. wake)
+
+    try_moves : (count : ℕ) (last : Option ℕ) (told : PipeReply) (after : DirectionState)
+        → ReadCase d (length buffer - count) told after
+        → MovesTo after (TriesToRead buffer (FillState.Filling count last))
+        (TriesToRead buffer (after_part row (length buffer) tried_of count last told))
+    try_moves =
+        part_moves (length buffer) tried_of TriedRightly (λ after count. tt) (λ count none. tt)
+        (λ count. tt) (λ at. TriesToRead buffer at) (λ at. tt) (λ after at right. right)
+        (λ i level at wake. wake)
 
   -- ---- a read of a block
 
@@ -515,7 +558,20 @@ module _ (limit : ℕ) (row : Row) (d : DirectionState) (fits : Fits limit d.kep
           over (reply.Wait n) (Refused why) came = stays waking _ tt
           over o grain came = absurd came
 
-    -- so of a block, which never waits then
+    -- so of one that does not wait
+    module _ (buffer : List ℕ) (woken number : ℕ) (out : TryAnswer) where
+      abbrev try_waking : CallState
+      try_waking = TriesToRead buffer (FillState.WakingWriters woken number out)
+
+      tries_by : (b : Bool) (grain : Grain PipeRequest PipeReply)
+          → Comes (next_with same HasTried
+          (if b then Next.Wake (writer_rendez row woken) number else Next.Over (Ok out))) grain
+          → MovesBy try_waking grain
+      tries_by true Went came = stays try_waking _ tt
+      tries_by true other came = absurd came
+      tries_by false grain came = absurd came
+
+    -- and of a block, which never waits then
     module _ (woken number count : ℕ) where
       abbrev block_waking : CallState
       block_waking = blocks (BlockState.WakingWriters woken number count)
@@ -568,7 +624,7 @@ module _ (limit : ℕ) (row : Row) (d : DirectionState) (fits : Fits limit d.kep
         rightly came =
         heard (fills buffer (FillState.Filling count last))
         (NextPart count (length buffer - count)) request told came.0 came.1
-        (part_moves buffer count last _ _ (read_case d (length buffer - count)))
+        (read_moves buffer count last _ _ (read_case d (length buffer - count)))
     moves_well (Reads buffer (TryState.Tries (FillState.WakingWriters woken number out))) grain
         rightly came =
         reads_by buffer woken number out rightly (nat_lt woken row.writers) grain came
@@ -578,6 +634,13 @@ module _ (limit : ℕ) (row : Row) (d : DirectionState) (fits : Fits limit d.kep
         rightly came = stays _ _ tt
     moves_well (Reads buffer (TryState.Tries (FillState.Told (Ok (reply.Wait n))))) (Refused why)
         rightly came = stays _ _ tt
+    moves_well (TriesToRead buffer (FillState.Filling count last)) (Heard request told) rightly
+        came =
+        heard (TriesToRead buffer (FillState.Filling count last))
+        (NextPart count (length buffer - count)) request told came.0 came.1
+        (try_moves buffer count last _ _ (read_case d (length buffer - count)))
+    moves_well (TriesToRead buffer (FillState.WakingWriters woken number out)) grain rightly came =
+        tries_by buffer woken number out (nat_lt woken row.writers) grain came
     moves_well (Blocks (TryState.Tries BlockState.Reading)) (Heard request told) rightly came =
         heard (blocks BlockState.Reading) NextBlock request told came.0 came.1
         (block_moves _ _ (read_case d ATOMIC_SIZE))

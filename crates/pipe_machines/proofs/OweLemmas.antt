@@ -10,6 +10,8 @@ use Rattle.sync_base.specs.declared.note.NoteSet.{NoteSet}
 use Rattle.block_queue.specs.QueueObject.{Contents}
 use Rattle.pipe_dev.specs.declared.answers.ReadAnswer.{ReadAnswer}
 use Rattle.pipe_dev.specs.declared.answers.ReadAnswer.TheVariants as read
+use Rattle.pipe_dev.specs.declared.answers.TryAnswer.{TryAnswer}
+use Rattle.pipe_dev.specs.declared.filling.ReadOutcome.{ReadOutcome}
 use Rattle.pipe_dev.specs.declared.row.Row.{Row}
 use Rattle.pipe_dev.specs.ReadSteps.{found_of}
 use Rattle.pipe_dev.specs.Rendezes.{reader_rendez, writer_rendez}
@@ -24,16 +26,16 @@ use Rattle.pipe_machines.specs.HangMachine.{HangState}
 use Rattle.pipe_machines.specs.PipeRuns.{CallOut, CallState, DirectionState, HasRoom, call_does}
 use Rattle.pipe_machines.specs.PipeRuns.{direction_told}
 use Rattle.pipe_machines.specs.PipeRuns.{pipe_calls, same}
-use Rattle.pipe_machines.specs.PipeRuns.CallOut.{HasRead, HungUp}
-use Rattle.pipe_machines.specs.PipeRuns.CallState.{Blocks, Hangs, Reads, Writes}
-use Rattle.pipe_machines.specs.ReadMachine.{FillState, after_part, read_try}
+use Rattle.pipe_machines.specs.PipeRuns.CallOut.{HasRead, HasTried, HungUp}
+use Rattle.pipe_machines.specs.PipeRuns.CallState.{Blocks, Hangs, Reads, TriesToRead, Writes}
+use Rattle.pipe_machines.specs.ReadMachine.{FillState, after_part, read_try, tried_of}
 use Rattle.pipe_machines.specs.Requests.{PipeReply, PipeRequest}
 use Rattle.pipe_machines.specs.Tries.{TryState, does_so, goes_so}
 use Rattle.pipe_machines.specs.WriteMachine.{PutState}
 use Rattle.pipe_machines.proofs.DirectionLemmas.{Fits, ReadCase, due_hung, due_writer, level_due}
 use Rattle.pipe_machines.proofs.DirectionLemmas.{read_case}
 use Rattle.pipe_machines.proofs.DirectionLemmas.ReadCase.{IsEnd, IsNotYet, OfRest, Takes}
-use Rattle.pipe_machines.proofs.MoveLemmas.{IsToWake, WaitsRightly, gone, to}
+use Rattle.pipe_machines.proofs.MoveLemmas.{IsFillToWake, IsToWake, WaitsRightly, gone, to}
 use Rattle.pipe_machines.proofs.WakingLemmas.{is_not_below}
 
 module _ (limit : ℕ) (row : Row) (rendez procs : ℕ) (room : HasRoom row rendez procs)
@@ -113,6 +115,23 @@ module _ (limit : ℕ) (row : Row) (rendez procs : ℕ) (room : HasRoom row rend
             let past = is_not_below woken row.writers test in
             absurd (omega (arith, past, most, low))
 
+      tries_owe : (buffer : List ℕ) (woken number : ℕ) (out : TryAnswer) → woken < i
+          → level ≤ number → (b : Bool) → nat_lt woken row.writers ≡ b
+          → (grain : Grain PipeRequest PipeReply)
+          → Comes (next_with same HasTried
+          (if b then Next.Wake (writer_rendez row woken) number else Next.Over (Ok out))) grain
+          → (level ≤ slice_index (levels_by levels (next_with same HasTried
+          (if b then Next.Wake (writer_rendez row woken) number else Next.Over (Ok out))) grain)
+          (row.first + i))
+          ⊎ IsToWake i level
+          (new (TriesToRead buffer (FillState.WakingWriters woken number out)) grain)
+      tries_owe buffer woken number out low enough true test Went came =
+          one_more i level woken number most low enough
+      tries_owe buffer woken number out low enough true test other came = absurd came
+      tries_owe buffer woken number out low enough false test grain came =
+          let past = is_not_below woken row.writers test in
+          absurd (omega (arith, past, most, low))
+
       module _ (woken number count : ℕ) (low : woken < i) (enough : level ≤ number) where
         abbrev block_by : Bool → Next PipeRequest (WaitReply ReadAnswer)
         block_by b =
@@ -159,16 +178,17 @@ module _ (limit : ℕ) (row : Row) (rendez procs : ℕ) (room : HasRoom row rend
           (omega (arith, there)) enough
 
       -- a part that the reader read after one that was taken out
-      part_owes : (buffer : List ℕ) (count number : ℕ) (told : PipeReply) (left : DirectionState)
+      part_owes : {Out : Type 0} (told_of : ReadOutcome → Out) (buffer : List ℕ) (count number : ℕ)
+          (told : PipeReply) (left : DirectionState)
           → ReadCase d (length buffer - count) told left
           → number ≡ d.kept.taken_out → d.rest ≡ None
           → 0 < i → level ≤ number → level_due left.kept i ≡ level
-          → IsToWake i level (Reads buffer (TryState.Tries
-          (after_part row (length buffer) found_of count (Some number) told)))
-      part_owes buffer count number told left (OfRest bytes some more told_is kept_is) is none low
-          enough stays =
+          → IsFillToWake i level
+          (after_part row (length buffer) told_of count (Some number) told)
+      part_owes told_of buffer count number told left
+          (OfRest bytes some more told_is kept_is) is none low enough stays =
           absurd (let both : None ≡ Some bytes = sym none ∙ some in cc)
-      part_owes buffer count number told left
+      part_owes told_of buffer count number told left
           (Takes write writes waiting told_is kept_is rest_is) is none low enough stays =
           absurd (by i low d.kept.hung refl enough stays)
         where
@@ -186,14 +206,15 @@ module _ (limit : ℕ) (row : Row) (rendez procs : ℕ) (room : HasRoom row rend
               let now = due_writer left.kept w still in
               let out = ap (λ (k : Contents). k.taken_out) kept_is in
               omega (arith, was, now, out, stays)
-      part_owes buffer count number told left (IsNotYet rest told_is left_is) is none low enough
-          stays =
-          subst (λ (t : PipeReply). IsToWake i level (Reads buffer (TryState.Tries
-          (after_part row (length buffer) found_of count (Some number) t)))) (sym told_is)
+      part_owes told_of buffer count number told left
+          (IsNotYet rest told_is left_is) is none low enough stays =
+          subst (λ (t : PipeReply). IsFillToWake i level
+          (after_part row (length buffer) told_of count (Some number) t)) (sym told_is)
           (low, enough)
-      part_owes buffer count number told left (IsEnd told_is left_is) is none low enough stays =
-          subst (λ (t : PipeReply). IsToWake i level (Reads buffer (TryState.Tries
-          (after_part row (length buffer) found_of count (Some number) t)))) (sym told_is)
+      part_owes told_of buffer count number told left
+          (IsEnd told_is left_is) is none low enough stays =
+          subst (λ (t : PipeReply). IsFillToWake i level
+          (after_part row (length buffer) told_of count (Some number) t)) (sym told_is)
           (low, enough)
 
       -- who is to wake it has woken it after a step, or still is to
@@ -214,12 +235,23 @@ module _ (limit : ℕ) (row : Row) (rendez procs : ℕ) (room : HasRoom row rend
           inr (subst (λ (t : PipeReply). IsToWake i level (Reads buffer (TryState.Tries
           (after_part row (length buffer) found_of count (Some number) t))))
           (sym (came.1 ∙ sym (ap (direction_told d) came.0)))
-          (part_owes buffer count number _ _ (read_case d (length buffer - count))
+          (part_owes found_of buffer count number _ _ (read_case d (length buffer - count))
           rightly.number_is rightly.none wake.0 wake.1
           (ap (λ (r : PipeRequest). level_due (after (Heard r told)).kept i) came.0 ∙ stays)))
       owes_on (Reads buffer (TryState.Tries (FillState.WakingWriters woken number out))) grain
           rightly came stays wake =
           reads_owe buffer woken number out wake.0 wake.1 (nat_lt woken row.writers) refl grain came
+      owes_on (TriesToRead buffer (FillState.Filling count (Some number))) (Heard request told)
+          rightly came stays wake =
+          inr (subst (λ (t : PipeReply). IsFillToWake i level
+          (after_part row (length buffer) tried_of count (Some number) t))
+          (sym (came.1 ∙ sym (ap (direction_told d) came.0)))
+          (part_owes tried_of buffer count number _ _ (read_case d (length buffer - count))
+          rightly.number_is rightly.none wake.0 wake.1
+          (ap (λ (r : PipeRequest). level_due (after (Heard r told)).kept i) came.0 ∙ stays)))
+      owes_on (TriesToRead buffer (FillState.WakingWriters woken number out)) grain rightly came
+          stays wake =
+          tries_owe buffer woken number out wake.0 wake.1 (nat_lt woken row.writers) refl grain came
       owes_on (Blocks (TryState.Tries (BlockState.WakingWriters woken number count))) grain rightly
           came stays wake =
           blocks_owe woken number count wake.0 wake.1 (nat_lt woken row.writers) refl grain came
@@ -242,6 +274,9 @@ module _ (limit : ℕ) (row : Row) (rendez procs : ℕ) (room : HasRoom row rend
           stays wake = absurd wake
       owes_on (Reads buffer (TryState.Tries (FillState.Told told))) grain rightly came stays wake =
           absurd wake
+      owes_on (TriesToRead buffer (FillState.Filling count None)) grain rightly came stays wake =
+          absurd wake
+      owes_on (TriesToRead buffer (FillState.Told told)) grain rightly came stays wake = absurd wake
       owes_on (Blocks (TryState.Fails why)) grain rightly came stays wake = absurd wake
       owes_on (Blocks (TryState.Tries BlockState.Reading)) grain rightly came stays wake =
           absurd wake

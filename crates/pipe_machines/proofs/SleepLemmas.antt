@@ -9,6 +9,7 @@ use Rattle.sync_base.specs.declared.limits.TheConstants.{TOP_LEVEL}
 use Rattle.sync_base.specs.Write.{Write}
 use Rattle.pipe_dev.specs.declared.answers.ReadAnswer.{ReadAnswer}
 use Rattle.pipe_dev.specs.declared.answers.ReadAnswer.TheVariants as read
+use Rattle.pipe_dev.specs.declared.answers.TryAnswer.{TryAnswer}
 use Rattle.pipe_dev.specs.declared.row.Row.{Row}
 use Rattle.pipe_dev.specs.ReadSteps.{found_of}
 use Rattle.pipe_dev.specs.Rendezes.{reader_rendez, writer_rendez}
@@ -22,8 +23,8 @@ use Rattle.pipe_machines.specs.PipeEnds.{goes_on, is_there}
 use Rattle.pipe_machines.specs.PipeRuns.{CallOut, CallState, DirectionState, call_does}
 use Rattle.pipe_machines.specs.PipeRuns.{is_in}
 use Rattle.pipe_machines.specs.PipeRuns.{part_told, same, taken_told}
-use Rattle.pipe_machines.specs.PipeRuns.CallOut.{HasRead, HungUp}
-use Rattle.pipe_machines.specs.PipeRuns.CallState.{Blocks, Hangs, Reads, Writes}
+use Rattle.pipe_machines.specs.PipeRuns.CallOut.{HasRead, HasTried, HungUp}
+use Rattle.pipe_machines.specs.PipeRuns.CallState.{Blocks, Hangs, Reads, TriesToRead, Writes}
 use Rattle.pipe_machines.specs.ReadMachine.{FillState, fill_does}
 use Rattle.pipe_machines.specs.Requests.{PipeReply, PipeRequest}
 use Rattle.pipe_machines.specs.Tries.{TryState, does_so}
@@ -37,6 +38,7 @@ use Rattle.pipe_machines.proofs.WakingLemmas.{is_not_below}
 abbrev pub IsBy : ℕ → CallState → Type 0
 IsBy pid (Writes writer bytes at) = pid ≡ writer + 1
 IsBy pid (Reads buffer at) = pid ≡ 0
+IsBy pid (TriesToRead buffer at) = pid ≡ 0
 IsBy pid (Blocks at) = pid ≡ 0
 IsBy pid (Hangs seat at) = ⊤
 
@@ -153,6 +155,21 @@ module _ (limit : ℕ) (row : Row) where
   fill_reads d buffer (FillState.Told (Err why)) number rightly is = absurd cc
   fill_reads d buffer (FillState.Filling count last) number rightly is = absurd cc
 
+  -- a read that does not wait never sleeps
+  pub tries_awake : (buffer : List ℕ) (at : FillState TryAnswer) (there : RendezId) (number : ℕ)
+      → does (TriesToRead buffer at) ≡ Next.Sleep there number → ⊥
+  tries_awake buffer (FillState.WakingWriters woken waked out) there number is =
+      never (nat_lt woken row.writers) is
+    where
+      never : (b : Bool) → next_with same HasTried
+          (if b then Next.Wake (writer_rendez row woken) waked else Next.Over (Ok out))
+          ≡ Next.Sleep there number → ⊥
+      never true is = cc
+      never false is = cc
+  tries_awake buffer (FillState.Filling count last) there number is = cc
+  tries_awake buffer (FillState.Told (Ok out)) there number is = cc
+  tries_awake buffer (FillState.Told (Err why)) there number is = cc
+
   -- ---- who sleeps
 
   -- a call that sleeps does so where it can be woken
@@ -197,6 +214,8 @@ module _ (limit : ℕ) (row : Row) where
             (reader_below limit d (length buffer) fits knows.none goes));
         low = omega (arith, given, same_number);
       }
+  sleeps_rightly d fits pid there number (TriesToRead buffer at) by rightly is =
+      absurd (tries_awake buffer at there number is)
   sleeps_rightly d fits pid there number
       (Blocks (TryState.Tries (BlockState.Told (reply.Wait n)))) by rightly is =
       let number_is : n ≡ number = cc in
@@ -267,6 +286,15 @@ module _ (limit : ℕ) (row : Row) where
             (does_by woken number level out (reader_rendez row) b)))
         by true test = tt
         by false test = absurd (past_all woken wake.0 test)
+    wakes_next_so (TriesToRead buffer (FillState.Filling count (Some number))) wake = tt
+    wakes_next_so (TriesToRead buffer (FillState.WakingWriters woken number out)) wake =
+        by (nat_lt woken row.writers) refl
+      where
+        by : (b : Bool) → nat_lt woken row.writers ≡ b → IsAWakeup
+            (next_with same HasTried
+            (if b then Next.Wake (writer_rendez row woken) number else Next.Over (Ok out)))
+        by true test = tt
+        by false test = absurd (past_all woken wake.0 test)
     wakes_next_so (Blocks (TryState.Tries (BlockState.WakingWriters woken number count))) wake =
         by (nat_lt woken row.writers) refl
       where
@@ -291,6 +319,8 @@ module _ (limit : ℕ) (row : Row) where
     wakes_next_so (Reads buffer (TryState.Fails why)) wake = absurd wake
     wakes_next_so (Reads buffer (TryState.Tries (FillState.Filling count None))) wake = absurd wake
     wakes_next_so (Reads buffer (TryState.Tries (FillState.Told told))) wake = absurd wake
+    wakes_next_so (TriesToRead buffer (FillState.Filling count None)) wake = absurd wake
+    wakes_next_so (TriesToRead buffer (FillState.Told told)) wake = absurd wake
     wakes_next_so (Blocks (TryState.Fails why)) wake = absurd wake
     wakes_next_so (Blocks (TryState.Tries BlockState.Reading)) wake = absurd wake
     wakes_next_so (Blocks (TryState.Tries (BlockState.Told told))) wake = absurd wake

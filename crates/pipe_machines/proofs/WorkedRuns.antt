@@ -1,5 +1,6 @@
 -- Runs of a pipe's calls, computed: waits that a write, a read and a hangup end, a read between a
--- put and the moment its write stands, a stream read that wakes within its wait, and a deadlock.
+-- put and the moment its write stands, reads that do not wait, a stream read that wakes within its
+-- wait, and a deadlock.
 use Rattle.std.proofs.Common.{◌≡◌, ◌<◌, inr, ℕ, zero, suc, Some, None, List, [], ◌∷◌, Ok, refl}
 use Rattle.std.proofs.Common.{arith, true, false}
 use Rattle.std.proofs.lemmas.Bool.{false≢true}
@@ -17,6 +18,7 @@ use Rattle.sleep_core.specs.declared.event.Event.{Event}
 use Rattle.sleep_core.specs.declared.event.Event.TheVariants as event
 use Rattle.block_queue.specs.declared.view.Key.{Key}
 use Rattle.pipe_dev.specs.declared.answers.ReadAnswer.TheVariants as read
+use Rattle.pipe_dev.specs.declared.answers.TryAnswer.TheVariants as try
 use Rattle.pipe_dev.specs.declared.row.Row.{Row}
 use Rattle.waiting.specs.declared.call.Reply.TheVariants as reply
 use Rattle.call_machines.specs.Ends.{HasStopped, NoRunDeadlocks}
@@ -35,7 +37,7 @@ use Rattle.pipe_machines.specs.Requests.PipeRequest.{Hang, NextPart, Put, Stand}
 use Rattle.pipe_machines.specs.Tries.TryState.{Tries}
 use Rattle.pipe_machines.specs.WriteMachine.{PutState}
 use Rattle.pipe_machines.specs.PipeRuns.{CallOut, CallState, DirectionState, pipe_system}
-use Rattle.pipe_machines.specs.PipeRuns.CallState.{Blocks, Hangs, Reads, Writes}
+use Rattle.pipe_machines.specs.PipeRuns.CallState.{Blocks, Hangs, Reads, TriesToRead, Writes}
 
 -- two bytes, for a first write
 abbrev pub a : List ℕ
@@ -145,6 +147,33 @@ its_states : (position_of one_each reader_first).states
     ≡ Reads room (Tries (FillState.WakingWriters 2 1 (reply.Done (read.Got 2))))
     ∷ Writes 0 a (Tries (PutState.Told (reply.Done 1))) ∷ []
 its_states = refl
+
+-- ---- a read that does not wait
+
+abbrev tries_once : Calls
+tries_once = calls_of Message 1 (TriesToRead room (FillState.Filling 0 None) ∷ writes 0 a ∷ [])
+
+-- where there is nothing it is over at once
+found_nothing : (position_of tries_once (0 ∷ [])).states
+    ≡ TriesToRead room (FillState.Told (Ok try.NotYet)) ∷ writes 0 a ∷ []
+found_nothing = refl
+
+-- where a write stands it has it, and wakes both writers with its number
+abbrev write_first : List ℕ
+write_first = 0 ∷ 0 ∷ 0 ∷ 0 ∷ 0 ∷ 1 ∷ 1 ∷ 1 ∷ 1 ∷ []
+
+write_first_run : run_of tries_once write_first
+    ≡ wakes_nobody 0 2 1
+    (wakes_nobody 0 1 1
+    (asked 0 (NextPart 0 3) (PipeReply.Got 2 (Some 1))
+    ∷ wakes_nobody 1 0 1
+    (asked 1 (Stand 0 1) PipeReply.Stood ∷ asked 1 (Put 0 a) (PipeReply.Taken 1) ∷ [])))
+write_first_run = refl
+
+found_it : (position_of tries_once write_first).states
+    ≡ TriesToRead room (FillState.WakingWriters 2 1 (try.Got 2))
+    ∷ Writes 0 a (Tries (PutState.Told (reply.Done 1))) ∷ []
+found_it = refl
 
 -- ---- a read between a put and the moment its write stands
 

@@ -13,7 +13,7 @@ use Rattle.call_machines.specs.Runs.{System}
 use Rattle.call_machines.specs.StrictRuns.{NeverStrictlyStuck, WaitsAskAgain}
 use Rattle.pipe_machines.specs.PipeRuns.{BeginsBy, CallOut, CallState, DirectionState, HasRoom}
 use Rattle.pipe_machines.specs.PipeRuns.{part_told, pipe_calls, told_put}
-use Rattle.pipe_machines.specs.PipeRuns.CallState.{Blocks, Hangs, Reads, Writes}
+use Rattle.pipe_machines.specs.PipeRuns.CallState.{Blocks, Hangs, Reads, TriesToRead, Writes}
 use Rattle.pipe_machines.specs.Requests.{PipeReply, PipeRequest}
 
 -- the reply lets a write go on, or a read
@@ -29,6 +29,7 @@ is_there other = true
 abbrev pub goes_on : DirectionState → CallState → Bool
 goes_on d (Writes writer bytes at) = is_not_full (told_put (put_reply d.kept bytes))
 goes_on d (Reads buffer at) = is_there (part_told d (length buffer) d.rest)
+goes_on d (TriesToRead buffer at) = false
 goes_on d (Blocks at) = is_there (part_told d 0 d.rest)
 goes_on d (Hangs seat at) = false
 

@@ -11,6 +11,7 @@ use Rattle.block_queue.specs.declared.queue_object.QueueReply.{QueueReply}
 use Rattle.block_queue.specs.declared.queue_object.QueueReply.TheVariants as queue
 use Rattle.block_queue.specs.QueueObject.{Contents, after_reply, new_kept, put_reply}
 use Rattle.pipe_dev.specs.declared.answers.ReadAnswer.{ReadAnswer}
+use Rattle.pipe_dev.specs.declared.answers.TryAnswer.{TryAnswer}
 use Rattle.pipe_dev.specs.declared.row.Row.{Row}
 use Rattle.pipe_dev.specs.Openings.{key_for}
 use Rattle.pipe_dev.specs.WriteCalls.{WriteCall}
@@ -21,7 +22,7 @@ use Rattle.pipe_machines.specs.BlockMachine.{BlockState, block_machine}
 use Rattle.pipe_machines.specs.BlockMachine.BlockState.{Reading}
 use Rattle.pipe_machines.specs.HangMachine.{HangState, hang_machine}
 use Rattle.pipe_machines.specs.HangMachine.HangState.{Hanging, HungAlone}
-use Rattle.pipe_machines.specs.ReadMachine.{FillState, read_machine}
+use Rattle.pipe_machines.specs.ReadMachine.{FillState, read_machine, try_machine}
 use Rattle.pipe_machines.specs.ReadMachine.FillState.{Filling}
 use Rattle.pipe_machines.specs.Requests.{PipeReply, PipeRequest}
 use Rattle.pipe_machines.specs.Requests.PipeReply.{End, Full, Got, Hung, Hungup, NotYet, Stood}
@@ -122,6 +123,8 @@ pub data CallState : Type 0 where
   Writes : ℕ → List ℕ → TryState PutState → CallState
   -- a read into this buffer
   Reads : List ℕ → TryState (FillState (WaitReply ReadAnswer)) → CallState
+  -- a read into this buffer that does not wait
+  TriesToRead : List ℕ → FillState TryAnswer → CallState
   -- a read of a block
   Blocks : TryState BlockState → CallState
   -- a hangup by this seat
@@ -130,6 +133,7 @@ pub data CallState : Type 0 where
 pub data CallOut : Type 0 where
   Wrote : ℕ → CallOut
   HasRead : ReadAnswer → CallOut
+  HasTried : TryAnswer → CallOut
   HungUp : CallOut
 
 abbrev pub same : PipeRequest → PipeRequest
@@ -145,6 +149,7 @@ module _ (limit : ℕ) (row : Row) where
   call_does (Writes writer bytes at) =
       next_with same Wrote ((write_machine (write_of writer bytes)).does at)
   call_does (Reads buffer at) = next_with same HasRead ((read_machine row buffer).does at)
+  call_does (TriesToRead buffer at) = next_with same HasTried ((try_machine row buffer).does at)
   call_does (Blocks at) = next_with same HasRead ((block_machine row).does at)
   call_does (Hangs seat at) =
       next_with same (λ unit. HungUp) ((hang_machine row true seat).does at)
@@ -153,6 +158,8 @@ module _ (limit : ℕ) (row : Row) where
   call_goes_on (Writes writer bytes at) came =
       Writes writer bytes ((write_machine (write_of writer bytes)).goes_on at came)
   call_goes_on (Reads buffer at) came = Reads buffer ((read_machine row buffer).goes_on at came)
+  call_goes_on (TriesToRead buffer at) came =
+      TriesToRead buffer ((try_machine row buffer).goes_on at came)
   call_goes_on (Blocks at) came = Blocks ((block_machine row).goes_on at came)
   call_goes_on (Hangs seat at) came = Hangs seat ((hang_machine row true seat).goes_on at came)
 
@@ -178,6 +185,7 @@ abbrev pub BeginsBy : ℕ → CallState → Type 0
 BeginsBy pid (Writes writer bytes at) = (pid ≡ writer + 1) × (at ≡ TryState.Tries Putting)
 BeginsBy pid (Reads buffer at) =
     (pid ≡ 0) × (buffer ≢ []) × (at ≡ TryState.Tries (Filling 0 None))
+BeginsBy pid (TriesToRead buffer at) = (pid ≡ 0) × (buffer ≢ []) × (at ≡ Filling 0 None)
 BeginsBy pid (Blocks at) = (pid ≡ 0) × (at ≡ TryState.Tries Reading)
 BeginsBy pid (Hangs seat at) = (pid ≡ seat) × (at ≡ Hanging)
 
