@@ -44,6 +44,7 @@ module _ (sema : Sema) (timers : Timers) (moment : ℕ) (before : TimedPoint Sem
       let same = same_units is.told answer is.same in
       omega (arith, units, same)
 
+-- a semacquire with a deadline is what its machine plays
 pub timed_acquires_are_plays : TimedAcquiresArePlays
 timed_acquires_are_plays sema timers moment before answer after rest unset =
     let number = number_of before.at.seat in

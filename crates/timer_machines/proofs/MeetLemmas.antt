@@ -1,4 +1,5 @@
--- A rendezvous calls, and wakes the partner that it finds: its machine plays what is promised of it.
+-- A rendezvous calls, and wakes the partner that it finds: its machine plays what is promised of
+-- it.
 use Rattle.std.proofs.Common.{◌≡◌, ℕ, zero, suc, Option, Some, None, Ok, Err, refl, sym}
 use Rattle.std.proofs.Common.{◌∙◌, ap, subst}
 use Rattle.rendez_words.specs.Process.{Process}
@@ -62,7 +63,8 @@ module _ (space : TagSpace) (number : ℕ) (offered : Offered) where
   goes_is (reply.Refused why) = refl
 
   stops_there : (means : WaitReply ℕ)
-      → stops_at m (Calls (goes_with means)) (meet_does space number offered (Calls (goes_with means)))
+      → stops_at m (Calls (goes_with means))
+      (meet_does space number offered (Calls (goes_with means)))
       ≡ Next.Over (Ok (Calls (goes_with means)))
   stops_there (reply.Done out) = refl
   stops_there (reply.Wait count) = refl
@@ -179,7 +181,8 @@ module _ (space : TagSpace) (number : ℕ) (offered : Offered) where
 
     never : (at : WaitState ℕ) (came : Outcome GroupReply) (now new : Point Member)
         → HasToWait at now
-        → HasDone (Requests space) (stops_at m (Calls at) (meet_does space number offered (Calls at)))
+        → HasDone (Requests space)
+        (stops_at m (Calls at) (meet_does space number offered (Calls at)))
         came now new → ⊥
     never at came now new so done =
         subst (λ (d : Next GroupCall MeetState). HasDone (Requests space) d came now new)
@@ -488,6 +491,7 @@ module _ (space : TagSpace) (number : ℕ) (offered : Offered) where
         };
       }
 
+-- a rendezvous with a deadline is what its machine plays
 pub timed_meets_are_plays : TimedMeetsArePlays
 timed_meets_are_plays space offered timers moment before answer after rest unset =
     let number = number_of before.at.seat in

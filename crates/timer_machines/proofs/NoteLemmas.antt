@@ -93,7 +93,8 @@ module _ {Out : Type 0} (expired : Bool) (others : NoteSet) where
   -- where notes ended it there is one answer
   one_answer : (set : NoteSet) (answer : Result Out Fault) → IsEndedByNotes expired others answer
       → answer ≡ timed_answer expired others (Stopped (fault.Interrupted set) None)
-  one_answer set (Err fault.TimedOut) ended = by expired (has_notes others) ended.0 (ap has_notes ended.1)
+  one_answer set (Err fault.TimedOut) ended =
+      by expired (has_notes others) ended.0 (ap has_notes ended.1)
     where
       by : (e some : Bool) → e ≡ true → some ≡ false
           → ◌≡◌ {A = Result Out Fault} (Err fault.TimedOut)

@@ -176,6 +176,7 @@ module _ (rendez : RendezId) (threshold : ℕ) where
         no_more = record { begun = begun; asked = asked; left = left };
       }
 
+-- a sleep with a deadline is what its machine plays
 pub timed_sleeps_are_plays : TimedSleepsArePlays
 timed_sleeps_are_plays rendez threshold timers moment before answer after unset =
     timed_calls_are_plays (sleep_machine rendez threshold) Sleeping (sleeping threshold) ServesNone

@@ -32,9 +32,13 @@ module _ {At Request Reply Out Seat : Type 0} (m : Machine At Request Reply Out)
 
   -- it has asked, and got this reply
   pub record HasAsked (old : Point Seat) (at : At) (new : Point Seat) : Type 0 where
+    -- the reply that it got
     pub r : Reply
+    -- which led it to this state
     pub at_is : at ≡ m.goes_on from (Outcome.Replied r)
+    -- its device served the seat so
     pub served : Serves request r old.seat new.seat
+    -- and its process did nothing
     pub idle : new.process ≡ old.process
 
   module _ (one : IsOne) (old : Point Seat) where
@@ -46,7 +50,8 @@ module _ {At Request Reply Out Seat : Type 0} (m : Machine At Request Reply Out)
         → HasAsked old (m.goes_on from came) new
     asked_first came new done =
         by came
-        (subst (λ (d : Next Request Out). HasDone Serves (stops_at m from d) came old new) asks done)
+        (subst (λ (d : Next Request Out). HasDone Serves (stops_at m from d) came old new) asks
+        done)
       where
         by : (c : Outcome Reply)
             → HasDone {Out = At} Serves (Next.Ask request) c old new
@@ -269,6 +274,7 @@ module _ {Request Reply Out Seat : Type 0} (w : WaitTable Request Reply Out)
               (left_is why (w.left so.0));
         }
 
+    -- so the promise of its calls is what its machine plays
     pub table_is_its_machine : IsItsMachine m promise Serves Rests Waiting rendez Begun
     table_is_its_machine =
         record {

@@ -1,10 +1,11 @@
--- Both ways: a call with a deadline, as its contract says, and a play of the machine around the call.
+-- Both ways: a call with a deadline, as its contract says, and a play of the machine around it.
 use Rattle.call_machines.specs.Machine.{Machine}
 use Rattle.waiting.specs.Waiting.{Promise}
 use Rattle.timer_machines.specs.TimedPlays.{TimedCallsArePlays}
 use Rattle.timer_machines.proofs.CallLemmas.{is_play}
 use Rattle.timer_machines.proofs.PlayLemmas.{is_timed_call}
 
+-- the one where the machine keeps the promise, the other where the promise allows no more
 pub timed_calls_are_plays : {At Request Reply Out Seat : Type 0}
     (m : Machine At Request Reply Out) (start : At) (promise : Promise Seat Out)
     (Serves : Request → Reply → Seat → Seat → Type 0) (Rests Waiting : Seat → Type 0)

@@ -1,5 +1,5 @@
--- What the call within has come to, where its machine keeps its promise: its sleeps so far are those
--- of a wait.
+-- What the call within has come to, where its machine keeps its promise: its sleeps so far are
+-- those of a wait.
 use Rattle.std.proofs.Common.{◌≡◌, ℕ, zero, suc, Option, Some, None, Ok, Err, inl, inr, ◌⊎◌}
 use Rattle.std.proofs.Common.{refl, sym, ◌∙◌, ap, subst}
 use Rattle.rendez_words.specs.Process.{Process}
@@ -22,7 +22,9 @@ module _ {At Request Reply Out Seat : Type 0} (m : Machine At Request Reply Out)
     (Serves : Request → Reply → Seat → Seat → Type 0) where
   -- it has asked from the one state on, and is at the other
   pub record Within (from : At) (old : Point Seat) (at : At) (now : Point Seat) : Type 0 where
+    -- it has made so many steps
     pub times : ℕ
+    -- and the machine of one request plays them
     pub plays : Plays Serves (request_machine m) times (record { state = from; at = old })
         (record { state = at; at = now })
 
@@ -66,29 +68,46 @@ module _ {At Request Reply Out Seat : Type 0} (m : Machine At Request Reply Out)
     (keeps : Keeps m promise Serves Rests Waiting rendez start) (first : WaitPoint Seat) where
   -- the call sleeps in this state, with a number that it was told last
   pub record HasToWait (at : At) (now : Point Seat) : Type 0 where
+    -- the number that it was told last
     pub number : ℕ
+    -- it sleeps in its Rendez with that number
     pub sleeps : m.does at ≡ Next.Sleep rendez number
+    -- so many sleeps ended well before
     pub times : ℕ
+    -- each of them with a request after it
     pub rounds : Rounds promise rendez times first (record { at = now; number = number })
+    -- and its seat waits for its device
     pub waits : Waiting now.seat
 
   -- its last sleep ended well, and it asks since
   pub record HasSlept (at : At) (now : Point Seat) : Type 0 where
+    -- where it was before the sleep
     pub from : At
+    -- with this seat and this process
     pub old : Point Seat
+    -- there it had to wait
     pub waits : HasToWait from old
+    -- where its process was after the sleep
     pub woken : Process
+    -- the sleep that ended well
     pub slept : SleepsWell old.process rendez waits.number woken
+    -- and what it asked since then
     pub within : Within m Serves (m.goes_on from (Outcome.Slept (Ok tt)))
         (record { seat = old.seat; process = woken }) at now
 
   -- its last sleep failed, and it leaves since
   pub record HasFailed (why : Fault) (at : At) (now : Point Seat) : Type 0 where
+    -- where it was before the sleep
     pub from : At
+    -- with this seat and this process
     pub old : Point Seat
+    -- there it had to wait
     pub waits : HasToWait from old
+    -- where its process was after the sleep
     pub ended : Process
+    -- the sleep that failed with this fault
     pub failed : FailsAsleep old.process rendez waits.number ended why
+    -- and what it asked since then
     pub within : Within m Serves (m.goes_on from (Outcome.Slept (Err why)))
         (record { seat = old.seat; process = ended }) at now
 
@@ -177,8 +196,11 @@ module _ {At Request Reply Out Seat : Type 0} (m : Machine At Request Reply Out)
 
   -- its sleeps have ended so
   pub record HasEnded (at : At) (failed : Option Fault) (now : Point Seat) : Type 0 where
+    -- how its sleeps have ended
     pub ending : WaitEnd Out
+    -- the machine around it says so too
     pub is : ending_at m failed at (m.does at) ≡ Some ending
+    -- and so does its promise
     pub slept : SleepsOn promise rendez first ending now
 
   answered : (at : At) (now : Point Seat) → HasSlept at now
@@ -311,7 +333,7 @@ module _ {At Request Reply Out Seat : Type 0} (m : Machine At Request Reply Out)
             (record { seat = old.seat; process = woken });
       })
 
-  -- or it fails
+  -- it sleeps, and the sleep fails
   pub sleeps_in_vain : (why : Fault) (at : At) (old : Point Seat) (ended : Process)
       (waits : HasToWait at old) → FailsAsleep old.process rendez waits.number ended why
       → IsWaiting (m.goes_on at (Outcome.Slept (Err why))) (Some why)

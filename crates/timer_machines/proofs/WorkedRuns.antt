@@ -1,5 +1,5 @@
--- Runs of calls with a deadline, computed: at a semaphore a wait that a release ends, and a sleep that
--- is refused since another process sleeps in its Rendez.
+-- Runs of calls with a deadline, computed: at a semaphore a wait that a release ends, and a sleep
+-- that is refused since another process sleeps in its Rendez.
 use Rattle.std.proofs.Common.{◌≡◌, ◌<◌, ℕ, Some, None, List, [], ◌∷◌, Ok, Err, refl, arith}
 use Rattle.std.specs.List.{AllByRecursion}
 use Rattle.kernel_lock.specs.declared.locked.Locked.{Locked}

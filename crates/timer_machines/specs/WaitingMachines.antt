@@ -1,5 +1,6 @@
--- The machine of a call that waits, request by request. After sleep and wakeup of the paper of 1991:
--- it asks, and where it has to wait it sleeps and asks again. Own: where a sleep fails it leaves.
+-- The machine of a call that waits, request by request. After sleep and wakeup of the paper of
+-- 1991: it asks, and where it has to wait it sleeps and asks again. Own: where a sleep fails it
+-- leaves.
 use Rattle.std.specs.Prelude.{◌≡◌, Option, Some, None, Ok, Err, ℕ}
 use Rattle.sync_base.specs.declared.fault.Fault.{Fault}
 use Rattle.sync_base.specs.declared.fault.Fault.TheVariants as fault
@@ -43,7 +44,8 @@ module _ {At Request Reply Out : Type 0} (machine : Machine At Request Reply Out
       (rendez : RendezId) (start : At) where
     -- it asked from this state on, and came to that one
     abbrev pub Asks : At → Point Seat → At → Point Seat → Type 0
-    Asks from old at new = Makes Serves request_machine (record { state = from; at = old }) (Ok at) new
+    Asks from old at new =
+        Makes Serves request_machine (record { state = from; at = old }) (Ok at) new
 
     -- the state that it came to is that of an answer, of which this holds
     pub record StandsFor (Promised : WaitReply Out → Type 0) (at : At) (seat : Seat) : Type 0 where
