@@ -76,6 +76,7 @@ awaited true true true is = absurd cc
 awaited true false wake is = absurd cc
 awaited false cell wake is = absurd cc
 
+-- a process has a phase in the world, or is idle
 pub below_or : (phases : List Phase) (q : ℕ)
     → (q < length phases) ⊎ (slice_index_or phases q phase.Idle ≡ phase.Idle)
 below_or [] q = inr refl
@@ -115,8 +116,8 @@ module _ (s : State) (pid : ℕ) where
       never (nat_lt pid (length s.phases)) (has_cell s (cell_of event stage))
       (reply event stage (word_at s (cell_of event stage)))
 
-  by_sleep : {Request Out : Type 0} (own : RendezId) (number : ℕ) (stage : Phase) → phase_of s pid ≡ stage
-      → InSleepPhase own number stage
+  by_sleep : {Request Out : Type 0} (own : RendezId) (number : ℕ) (stage : Phase)
+      → phase_of s pid ≡ stage → InSleepPhase own number stage
       → said_in stage (event_in pid stage (core.Sleep own number)) ≡ answer.Parked
       → ParkedSo {Request = Request} {Out = Out} (Next.Sleep own number)
   by_sleep own number phase.Idle at fits is =
@@ -215,7 +216,8 @@ module _ (s : State) (pid : ℕ) where
       → answer_to s event ≡ answer.Parked → ParkedSo n
   parked_so (Next.Sleep own number) stage event at fits is told =
       let same : event_in pid stage (core.Sleep own number) ≡ event = cc in
-      by_sleep own number stage at fits (answered stage (event_in pid stage (core.Sleep own number)) at
+      by_sleep own number stage at fits
+      (answered stage (event_in pid stage (core.Sleep own number)) at
       (sleep_made stage own number) (ap (answer_to s) same ∙ told))
   parked_so (Next.Wake rendez level) stage event at fits is told =
       let same : event_in pid stage (core.Wakeup rendez level) ≡ event = cc in

@@ -163,8 +163,9 @@ module _ {At Request Reply Out Object : Type 0} (system : System At Request Repl
       let new = returned_rises s event r in
       omega arith
 
-  sleeps_on : (own : RendezId) (number : ℕ) (event : Event) (stage : Phase) → GoesOn own number stage
-      → NotesKept s (world_after s event) → IsNone (Next.Sleep own number) event stage
+  sleeps_on : (own : RendezId) (number : ℕ) (event : Event) (stage : Phase)
+      → GoesOn own number stage → NotesKept s (world_after s event)
+      → IsNone (Next.Sleep own number) event stage
   sleeps_on own number event stage goes kept =
       record { busy = goes.0; fits = goes.1; notes = kept }
 
@@ -220,7 +221,8 @@ module _ {At Request Reply Out Object : Type 0} (system : System At Request Repl
       })
 
   -- a sleep is over
-  clear_so : (own : RendezId) (number : ℕ) (stage : Phase) (some : Bool) → has_notes (flags_of s pid).notes ≡ some
+  clear_so : (own : RendezId) (number : ℕ) (stage : Phase) (some : Bool)
+      → has_notes (flags_of s pid).notes ≡ some
       → (flags_of (world_after s (Clear (proc pid))) pid).notes ≡ no_notes
       → ((p : ℕ) → p ≢ pid
       → (flags_of (world_after s (Clear (proc pid))) p).notes ≡ (flags_of s p).notes)

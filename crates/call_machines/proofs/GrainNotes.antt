@@ -175,6 +175,7 @@ drain_told s pid there at =
     told_there s pid (Drain (proc pid)) phase.Idle refl there.within at
     (grind (arith, nat_tests))
 
+-- its process has neither notes nor mark after it
 pub drain_flags : (s : State) (pid : ℕ) → IsThere s pid → phase_of s pid ≡ phase.Idle
     → (world_after s (Drain (proc pid))).flags ≡ slice_set s.flags pid no_flags
 drain_flags s pid there at =

@@ -1,6 +1,6 @@
 -- Each run at the grain of calls has one that comes to the same and in which no wait ends well too
 -- early: who is woken too early asks in vain, and waits on.
-use Rattle.std.proofs.Common.{◌≡◌, ◌≢◌, ◌⊎◌, inl, inr, ◌<◌, ℕ, true, false, eqb, List}
+use Rattle.std.proofs.Common.{◌≡◌, ◌≢◌, ◌⊎◌, inl, inr, ◌<◌, ℕ, Bool, true, false, eqb, List}
 use Rattle.std.proofs.Common.{[], ◌∷◌, length, Ok, Err, refl, sym, ◌∙◌, ap, subst}
 use Rattle.std.proofs.lemmas.Bool.Decides.{eqb_tells}
 use Rattle.std.proofs.lemmas.List.{get_or-set_same, get_or-set_other, length-replicate, length-set}
@@ -17,14 +17,28 @@ use Rattle.call_machines.specs.GrainEnds.{AreUnrefused, HaveEndedAt}
 use Rattle.call_machines.specs.GrainEnds.{IsCoarseStuck, IsObjectStuck, IsUnrefused, WaitsBy}
 use Rattle.call_machines.specs.GrainEnds.{WaitsOn}
 use Rattle.call_machines.specs.Machine.{Next, Outcome}
-use Rattle.call_machines.specs.Runs.{System, procs}
+use Rattle.call_machines.specs.Grain.{event_grain, moves_of, slept_grain, with_grain, with_move}
+use Rattle.call_machines.specs.Replies.{AreAskedSo, AreHeardSo, IsAskedSo, IsHeardSo}
+use Rattle.call_machines.specs.Replies.{NeverStuckSo, SuchEndsHold}
+use Rattle.call_machines.specs.Runs.{Act, OwnState, Step, System, own_in, procs}
+use Rattle.call_machines.specs.Runs.Act.{Asked, Made}
 use Rattle.call_machines.specs.StrictRuns.{AreOneWait, AreStrict, AsksAgain, AsksInVain}
-use Rattle.call_machines.specs.StrictRuns.{EndsInTime, NeverStrictlyStuck, StrictEndsHold}
+use Rattle.call_machines.specs.StrictRuns.{EndsInTime, StrictEndsHold}
 use Rattle.call_machines.specs.StrictRuns.{WaitsAskAgain, woken}
-use Rattle.call_machines.proofs.UnrefusedLemmas.{unrefused_ends_hold}
+use Rattle.call_machines.proofs.GrainEndLemmas.{is_stuck}
+use Rattle.call_machines.proofs.GrainLemmas.{fine_run}
+use Rattle.call_machines.proofs.UnrefusedLemmas.{no_sleep_is_refused}
+use Rattle.sleep_core.specs.declared.answer.Answer.{Answer}
+use Rattle.sleep_core.specs.declared.answer.Answer.TheVariants as answer
+use Rattle.sleep_core.specs.declared.event.Event.{Event}
+use Rattle.sleep_core.specs.declared.event.Event.TheVariants as event
+use Rattle.sleep_core.specs.Table.{phase_after}
+use Rattle.schedules.specs.Position.{is_idle}
+use Rattle.std.specs.Prelude.{⊤}
 
 module _ {At Request Reply Out Object : Type 0} (system : System At Request Reply Out Object)
-    (Goes : Object → At → Type 0) (again : WaitsAskAgain system Goes) where
+    (Goes : Object → At → Type 0) (Comes : Request → Reply → Type 0)
+    (again : WaitsAskAgain system Goes) where
   -- ---- the two runs
 
   -- the strict run still sleeps, where the other was woken without notes
@@ -62,6 +76,7 @@ module _ {At Request Reply Out Object : Type 0} (system : System At Request Repl
     all : AreMoves system moves
     unrefused : AreUnrefused system moves
     strict : AreStrict system Goes moves
+    heard : AreHeardSo Comes moves
     sized : Sized (coarse_of system moves)
     object : (coarse_of system moves).object ≡ at.object
     notes : (pid : ℕ) → notes_of system (coarse_of system moves) pid ≡ notes_of system at pid
@@ -127,17 +142,20 @@ module _ {At Request Reply Out Object : Type 0} (system : System At Request Repl
       both : (grain : Grain Request Reply)
           → May system now.object (notes_of system now pid)
           (system.machine.does (at_of system now pid)) grain
-          → IsUnrefused system grain → EndsInTime system Goes now.object (at_of system now pid) grain
+          → IsUnrefused system grain
+          → EndsInTime system Goes now.object (at_of system now pid) grain
+          → IsHeardSo Comes grain
           → Fits (notes_by (notes_of system at pid) grain)
           (system.machine.goes_on (at_of system at pid) (outcome_by grain))
           (system.machine.goes_on (at_of system now pid) (outcome_by grain))
           → Strictly (after at grain)
-      both grain may unrefused strict fits =
+      both grain may unrefused strict heard fits =
           record {
             moves = record { by = pid; grain = grain } ∷ so.moves;
             all = (so.all, (low, may));
             unrefused = (so.unrefused, unrefused);
             strict = (so.strict, strict);
+            heard = (so.heard, heard);
             sized = sized_more now (record { by = pid; grain = grain }) so.sized;
             object = ap (λ (o : Object). object_with system o grain) so.object;
             notes = each (λ p. notes_of system (after now grain) p
@@ -170,6 +188,7 @@ module _ {At Request Reply Out Object : Type 0} (system : System At Request Repl
             all = so.all;
             unrefused = so.unrefused;
             strict = so.strict;
+            heard = so.heard;
             sized = so.sized;
             object = so.object ∙ sym object_is;
             notes = each (λ p. notes_of system now p ≡ notes_of system (after at grain) p)
@@ -198,19 +217,20 @@ module _ {At Request Reply Out Object : Type 0} (system : System At Request Repl
       -- where both are in the same state
       same_both : (grain : Grain Request Reply) → old ≡ at_of system now pid
           → May system at.object (notes_of system at pid) (system.machine.does old) grain
-          → IsUnrefused system grain → EndsInTime system Goes now.object (at_of system now pid) grain
-          → Strictly (after at grain)
-      same_both grain same may unrefused strict =
+          → IsUnrefused system grain
+          → EndsInTime system Goes now.object (at_of system now pid) grain
+          → IsHeardSo Comes grain → Strictly (after at grain)
+      same_both grain same may unrefused strict heard =
           both grain
           (may_now _ grain (subst (λ (a : At). May system at.object (notes_of system at pid)
           (system.machine.does a) grain) same may))
-          unrefused strict
+          unrefused strict heard
           (IsSame (ap (λ (a : At). system.machine.goes_on a (outcome_by grain)) same))
 
       same_step : (grain : Grain Request Reply) → old ≡ at_of system now pid
           → May system at.object (notes_of system at pid) (system.machine.does old) grain
-          → IsUnrefused system grain → Strictly (after at grain)
-      same_step Woken same may unrefused =
+          → IsUnrefused system grain → IsHeardSo Comes grain → Strictly (after at grain)
+      same_step Woken same may unrefused heard =
           skip Woken refl refl (WasEarly (record {
             rendez = may.0;
             number = may.1;
@@ -218,15 +238,21 @@ module _ {At Request Reply Out Object : Type 0} (system : System At Request Repl
             is = ap (woken system) same;
             quiet = may.3;
           }))
-      same_step (Heard request reply) same may unrefused = same_both _ same may unrefused tt
-      same_step (Noted set) same may unrefused = same_both _ same may unrefused tt
-      same_step (Refused why) same may unrefused = absurd unrefused
-      same_step Went same may unrefused = same_both _ same may unrefused tt
-      same_step (Returned set) same may unrefused = same_both _ same may unrefused tt
-      same_step (Drained set) same may unrefused = same_both _ same may unrefused tt
+      same_step (Heard request reply) same may unrefused heard =
+          same_both _ same may unrefused tt heard
+      same_step (Noted set) same may unrefused heard =
+          same_both _ same may unrefused tt tt
+      same_step (Refused why) same may unrefused heard = absurd unrefused
+      same_step Went same may unrefused heard =
+          same_both _ same may unrefused tt tt
+      same_step (Returned set) same may unrefused heard =
+          same_both _ same may unrefused tt tt
+      same_step (Drained set) same may unrefused heard =
+          same_both _ same may unrefused tt tt
 
       -- where both sleep
-      asleep_step : (grain : Grain Request Reply) → AreOneWait system Goes old (at_of system now pid)
+      asleep_step : (grain : Grain Request Reply)
+          → AreOneWait system Goes old (at_of system now pid)
           → May system at.object (notes_of system at pid) (system.machine.does old) grain
           → IsUnrefused system grain → Strictly (after at grain)
       asleep_step Woken one may unrefused =
@@ -240,7 +266,7 @@ module _ {At Request Reply Out Object : Type 0} (system : System At Request Repl
       asleep_step (Noted set) one may unrefused =
           both (Noted set)
           (may_now _ (Noted set) (one.rendez, one.other_number, one.other_sleeps, may.3, may.4))
-          tt tt (IsSame (one.alike (Err (fault.Interrupted set))))
+          tt tt tt (IsSame (one.alike (Err (fault.Interrupted set))))
       asleep_step (Refused why) one may unrefused = absurd unrefused
       asleep_step (Heard request reply) one may unrefused =
           absurd (let both = sym one.sleeps ∙ may.0 in cc)
@@ -258,10 +284,19 @@ module _ {At Request Reply Out Object : Type 0} (system : System At Request Repl
           moves = record { by = pid; grain = Woken } ∷ so.moves;
           all = (
             so.all,
-            (low, (early.rendez, early.number, early.sleeps, ap has_notes (so.notes pid) ∙ early.quiet)),
+            (
+              low,
+              (
+                early.rendez,
+                early.number,
+                early.sleeps,
+                ap has_notes (so.notes pid) ∙ early.quiet,
+              ),
+            ),
           );
           unrefused = (so.unrefused, tt);
           strict = (so.strict, goes);
+          heard = (so.heard, tt);
           sized = sized_more now (record { by = pid; grain = Woken }) so.sized;
           object = so.object;
           notes = each (λ p. notes_of system (after now Woken) p ≡ notes_of system at p)
@@ -316,8 +351,8 @@ module _ {At Request Reply Out Object : Type 0} (system : System At Request Repl
     step : (so : Strictly at) (grain : Grain Request Reply)
         → May system at.object (notes_of system at pid)
         (system.machine.does (at_of system at pid)) grain
-        → IsUnrefused system grain → Strictly (after at grain)
-    step so grain may unrefused = by (so.states pid)
+        → IsUnrefused system grain → IsHeardSo Comes grain → Strictly (after at grain)
+    step so grain may unrefused heard = by (so.states pid)
       where
         strict_at : At
         strict_at = at_of system (coarse_of system so.moves) pid
@@ -332,14 +367,15 @@ module _ {At Request Reply Out Object : Type 0} (system : System At Request Repl
                 → Strictly (after at grain)
             comes (inl goes) =
                 let caught = catch_up so early goes in
-                same_step caught.0 grain caught.1 may unrefused
+                same_step caught.0 grain caught.1 may unrefused heard
             comes (inr vain) = in_vain so asks.request grain early asks.asks vain may
 
         by : Fits (notes_of system at pid) (at_of system at pid) strict_at
             → Strictly (after at grain)
-        by (IsSame same) = same_step so grain same may unrefused
+        by (IsSame same) = same_step so grain same may unrefused heard
         by (IsOneWait one) = asleep_step so grain one may unrefused
-        by (WasEarly early) = of early (again so.moves so.all pid early.rendez early.number low early.sleeps)
+        by (WasEarly early) =
+            of early (again so.moves so.all pid early.rendez early.number low early.sleeps)
 
   -- ---- all moves
 
@@ -348,14 +384,15 @@ module _ {At Request Reply Out Object : Type 0} (system : System At Request Repl
       record { states = refl; notes = length-replicate (procs system) no_notes }
 
   strictly_after : (moves : List (Move Request Reply)) → AreMoves system moves
-      → AreUnrefused system moves
+      → AreUnrefused system moves → AreHeardSo Comes moves
       → Strictly (coarse_of system moves) × Sized (coarse_of system moves)
-  strictly_after [] all unrefused = (
+  strictly_after [] all unrefused heard = (
     record {
       moves = [];
       all = tt;
       unrefused = tt;
       strict = tt;
+      heard = tt;
       sized = sized_start;
       object = refl;
       notes = λ pid. refl;
@@ -363,9 +400,10 @@ module _ {At Request Reply Out Object : Type 0} (system : System At Request Repl
     },
     sized_start,
   )
-  strictly_after (move ∷ moves) all unrefused =
-      let so = strictly_after moves all.0 unrefused.0 in (
-        step (coarse_of system moves) so.1 move.by all.1.0 so.0 move.grain all.1.1 unrefused.1,
+  strictly_after (move ∷ moves) all unrefused heard =
+      let so = strictly_after moves all.0 unrefused.0 heard.0 in (
+        step (coarse_of system moves) so.1 move.by all.1.0 so.0 move.grain all.1.1 unrefused.1
+            heard.1,
         sized_more (coarse_of system moves) move so.1,
       )
 
@@ -433,25 +471,71 @@ module _ {At Request Reply Out Object : Type 0} (system : System At Request Repl
         by (WasEarly early) = absurd (not_over _ early.rendez early.number early.sleeps ends)
 
   -- runs with waits that end too early may be left out
-  all_ends : NeverStrictlyStuck system Goes
+  all_ends : NeverStuckSo system Comes Goes
       → (moves : List (Move Request Reply)) → AreMoves system moves → AreUnrefused system moves
+      → AreHeardSo Comes moves
       → IsObjectStuck system Goes (coarse_of system moves)
       → HaveEndedAt system (coarse_of system moves)
-  all_ends never moves all unrefused stuck =
-      let so = (strictly_after moves all unrefused).0 in
+  all_ends never moves all unrefused heard stuck =
+      let so = (strictly_after moves all unrefused heard).0 in
       let at = coarse_of system moves in
-      let ended = never so.moves so.all so.unrefused so.strict
+      let ended = never so.moves so.all so.unrefused so.strict so.heard
       (λ pid low. stuck_so at so pid low (stuck pid low)) in
       λ pid low. over_back at so pid low (ended pid low)
 
+  -- a run has the replies of its moves
+  sleep_heard : (said : Answer) → IsHeardSo Comes (slept_grain system said)
+  sleep_heard answer.Cleared = tt
+  sleep_heard (answer.Interrupted set) = tt
+  sleep_heard answer.DoubleSleep = tt
+  sleep_heard answer.BadLevel = tt
+  sleep_heard other = tt
+
+  event_heard : (made : Event) (said : Answer) → IsHeardSo Comes (event_grain system made said)
+  event_heard (event.Post pid rendez threshold) said = sleep_heard said
+  event_heard (event.Test pid) said = sleep_heard said
+  event_heard (event.Look pid) said = sleep_heard said
+  event_heard (event.Withdraw pid) said = sleep_heard said
+  event_heard (event.Clear pid) said = sleep_heard said
+  event_heard (event.Note pid set) said = tt
+  event_heard (event.Drain pid) (answer.Notes set) = tt
+  event_heard (event.Drain pid) said = tt
+  event_heard other said = tt
+
+  grain_heard : (pid : ℕ) (over : Bool) (grain : Grain Request Reply)
+      (moves : List (Move Request Reply)) → IsHeardSo Comes grain → AreHeardSo Comes moves
+      → AreHeardSo Comes (with_grain system pid over grain moves)
+  grain_heard pid true grain moves heard before = (before, heard)
+  grain_heard pid false grain moves heard before = before
+
+  act_heard : (pid : ℕ) (own : OwnState system.machine) (act : Act Request Reply)
+      (moves : List (Move Request Reply)) → IsAskedSo Comes act → AreHeardSo Comes moves
+      → AreHeardSo Comes (with_move system pid own act moves)
+  act_heard pid own (Asked request reply) moves so before = (before, so)
+  act_heard pid own (Made made said) moves so before =
+      grain_heard pid (is_idle (phase_after said made own.stage)) (event_grain system made said)
+      moves (event_heard made said) before
+
+  heard_in : (run : List (Step Request Reply)) → AreAskedSo Comes run
+      → AreHeardSo Comes (moves_of system run)
+  heard_in [] asked = tt
+  heard_in (step ∷ past) asked =
+      act_heard step.by (own_in system step.by past) step.act (moves_of system past) asked.1
+      (heard_in past asked.0)
+
 -- and so may refused sleeps
-pub strict_ends_hold : {At Request Reply Out Object : Type 0}
+pub such_ends_hold : {At Request Reply Out Object : Type 0}
     (system : System At Request Reply Out Object) (Goes : Object → At → Type 0)
-    → StrictEndsHold system Goes
-strict_ends_hold system Goes apart below due again never =
-    unrefused_ends_hold system apart below (λ moves all unrefused stuck.
-    all_ends system Goes again never moves all unrefused
-    (λ pid low. by moves all stuck pid low (stuck pid low)))
+    (Comes : Request → Reply → Type 0) → SuchEndsHold system Comes Goes
+such_ends_hold system Goes Comes apart below due again never run of asked stopped pid low =
+    let fine = fine_run system run of in
+    let moves = moves_of system run in
+    let unrefused = no_sleep_is_refused system apart below run of in
+    subst (λ x. HasEnded (system.machine.does x)) (fine.coarse.states pid)
+    (all_ends system Goes Comes again never moves fine.are unrefused
+    (heard_in system Goes Comes again run asked)
+    (λ p there. by moves fine.are (is_stuck system run of stopped) p there
+    (is_stuck system run of stopped p there)) pid low)
   where
     by : (moves : List (Move _ _)) (all : AreMoves system moves)
         → IsCoarseStuck system (coarse_of system moves) → (pid : ℕ) → pid < procs system
@@ -468,3 +552,22 @@ strict_ends_hold system Goes apart below due again never =
           none = on.none;
           stays = λ goes. due moves all stuck pid low on goes;
         })
+
+-- any reply is one that may come
+any_reply : {Request Reply : Type 0} (act : Act Request Reply)
+    → IsAskedSo (λ request reply. ⊤) act
+any_reply (Asked request reply) = tt
+any_reply (Made event said) = tt
+
+all_asked : {Request Reply : Type 0} (run : List (Step Request Reply))
+    → AreAskedSo (λ request reply. ⊤) run
+all_asked [] = tt
+all_asked (step ∷ past) = (all_asked past, any_reply step.act)
+
+-- so no run deadlocks if none does in which waits end in time
+pub strict_ends_hold : {At Request Reply Out Object : Type 0}
+    (system : System At Request Reply Out Object) (Goes : Object → At → Type 0)
+    → StrictEndsHold system Goes
+strict_ends_hold system Goes apart below due again never run of =
+    such_ends_hold system Goes (λ request reply. ⊤) apart below due again
+    (λ moves all unrefused strict heard. never moves all unrefused strict) run of (all_asked run)

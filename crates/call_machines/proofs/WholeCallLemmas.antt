@@ -219,7 +219,8 @@ module _ {At Request Reply Out Object Seat : Type 0} (system : System At Request
               (Outcome.Slept (Err (fault.Interrupted noted.set)))
               (said_is ∙ ap sleep_outcome noted.told_is) (noted.failed, refl) idle
           sleep_goes from comes rendez number does said_is (inr (idle, inr (inr taken))) =
-              over_so from comes (Next.Sleep rendez number) does (Outcome.Slept (Err fault.DoubleSleep))
+              over_so from comes (Next.Sleep rendez number) does
+              (Outcome.Slept (Err fault.DoubleSleep))
               (said_is ∙ ap sleep_outcome taken.told_is) (taken.failed, refl) idle
 
           -- of a wakeup
@@ -249,8 +250,8 @@ module _ {At Request Reply Out Object Seat : Type 0} (system : System At Request
                   }))
 
         -- the last answer of a sleep is told
-        sleep_ended : (rendez : RendezId) (number : ℕ) (from : List Entry) (stage : Phase) (trace : List Entry)
-            (said : Answer) → InSleep words pid rendez number from stage trace
+        sleep_ended : (rendez : RendezId) (number : ℕ) (from : List Entry) (stage : Phase)
+            (trace : List Entry) (said : Answer) → InSleep words pid rendez number from stage trace
             → ◌≡◌ {A = Outcome Reply}
             (outcome_of (event_in pid stage (core.Sleep rendez number)) said)
             (sleep_outcome said)
@@ -425,7 +426,8 @@ module _ {At Request Reply Out Object Seat : Type 0} (system : System At Request
                   (let both = ap (event_for pid o.stage) (sym sleeps.does) ∙ made_is in
                   cc) in
                   subst (λ (e : Event). EventTo e (answer_to s e)) same
-                  (sleep_event sleeps.from sleeps.comes sleeps.rendez sleeps.number sleeps.does sleeps.goes)
+                  (sleep_event sleeps.from sleeps.comes sleeps.rendez sleeps.number sleeps.does
+                  sleeps.goes)
               by (inr (inr wakes)) =
                   let same : event_in pid o.stage (core.Wakeup wakes.other wakes.level) ≡ made =
                   (let both = ap (event_for pid o.stage) (sym wakes.does) ∙ made_is in cc) in

@@ -1,6 +1,6 @@
 -- The rows of the definitions, one by one, and what each forbids.
-use Rattle.std.proofs.Common.{◌≡◌, ◌<◌, ℕ, zero, suc, Bool, true, false, Option, Some, None, [], ◌∷◌}
-use Rattle.std.proofs.Common.{Result, Ok, Err, refl, ap, arith}
+use Rattle.std.proofs.Common.{◌≡◌, ◌<◌, ℕ, zero, suc, Bool, true, false, Option, Some, None, List}
+use Rattle.std.proofs.Common.{[], ◌∷◌, Result, Ok, Err, refl, ap, arith}
 use Rattle.std.specs.Prelude.{⊤}
 use Rattle.sync_base.specs.declared.fault.Fault.{Fault}
 use Rattle.sync_base.specs.declared.fault.Fault.TheVariants as fault
@@ -15,12 +15,15 @@ use Rattle.sleep_core.specs.declared.phase.Phase.{Phase}
 use Rattle.sleep_core.specs.declared.phase.Phase.TheVariants as phase
 use Rattle.sleep_core.specs.State.{opening}
 use Rattle.waiting.specs.Waiting.{Promise}
-use Rattle.call_machines.specs.Grain.{Grain, May, coarse_of, levels_by, notes_by, with_move}
+use Rattle.call_machines.specs.Grain.{AreMoves, Grain, May, Move, coarse_of, levels_by, notes_by}
+use Rattle.call_machines.specs.Grain.{with_move}
 use Rattle.call_machines.specs.Grain.Grain.{Drained, Heard, Noted, Refused, Returned, Went, Woken}
-use Rattle.call_machines.specs.GrainEnds.{AreUnrefused}
+use Rattle.call_machines.specs.GrainEnds.{AreApart, AreUnrefused, SleepsAfter}
+use Rattle.call_machines.specs.Replies.{AreAskedSo, AreHeardSo}
 use Rattle.call_machines.specs.Machine.{Next, Outcome, next_with, outcome_with}
 use Rattle.call_machines.specs.Programs.{ComesTo, EachBegins, Program, ProgramState, goes_in_call}
-use Rattle.call_machines.specs.Programs.{list_program, program_does, program_goes_on, program_system, with_call}
+use Rattle.call_machines.specs.Programs.{list_program, program_does, program_goes_on}
+use Rattle.call_machines.specs.Programs.{program_system, with_call}
 use Rattle.call_machines.specs.Programs.ProgramState.{Ended, In}
 use Rattle.call_machines.specs.Runs.{IsAnswered, IsNext, IsOfCalls, event_for, outcome_of}
 use Rattle.call_machines.specs.Runs.{System, own_after}
@@ -29,7 +32,7 @@ use Rattle.call_machines.specs.WaitTables.{AllowsNoMore, Keeps, does, goes_on}
 use Rattle.call_machines.specs.WaitTables.WaitState.{Asking, Begun, Leaving, Over, Returning, Waits}
 use Rattle.call_machines.specs.WholeCalls.{IsThereFor, events_of}
 use Rattle.call_machines.proofs.WorkedLatch.{LatchCall, LatchReply, LatchState, asked}
-use Rattle.call_machines.proofs.WorkedLatch.{asleep, latch}
+use Rattle.call_machines.proofs.WorkedLatch.{asleep, latch, latch_of}
 use Rattle.call_machines.proofs.WorkedLatch.{latch_after, latch_answer, means, means_late, proc}
 use Rattle.call_machines.proofs.WorkedLatch.{rendez, wait_table}
 use Rattle.call_machines.proofs.WorkedLatch.LatchCall.{Look, Set}
@@ -50,7 +53,8 @@ asks_again = refl
 leaves : does wait_table (rendez 3) (Leaving fault.DoubleSleep) ≡ Next.Ask Look
 leaves = refl
 
-returns_its_notes : does wait_table (rendez 3) (Returning (only Alarm) tt) ≡ Next.Return (only Alarm)
+returns_its_notes : does wait_table (rendez 3) (Returning (only Alarm) tt)
+    ≡ Next.Return (only Alarm)
 returns_its_notes = refl
 
 is_over : does wait_table (rendez 3) (Over (Ok tt)) ≡ Next.Over (Ok tt)
@@ -300,6 +304,54 @@ refused_at_once = refl
 a_refusal_is_one : AreUnrefused latch
     (record { by = 0; grain = Refused fault.DoubleSleep } ∷ []) → ⊥
 a_refusal_is_one are = are.1
+
+-- ---- replies
+
+abbrev IsOpen : LatchCall → LatchReply → Type 0
+IsOpen call replied = replied ≡ Open
+
+heard_it_closed : AreHeardSo IsOpen (record { by = 0; grain = Heard Look Closed } ∷ []) → ⊥
+heard_it_closed heard = let is = heard.1 in cc
+
+heard_it_closed_once : AreHeardSo IsOpen (record { by = 1; grain = Woken }
+    ∷ record { by = 0; grain = Heard Look Closed } ∷ []) → ⊥
+heard_it_closed_once heard = let is = heard.0.1 in cc
+
+heard_it_open : AreHeardSo IsOpen (record { by = 0; grain = Went }
+    ∷ record { by = 0; grain = Heard Look Open } ∷ [])
+heard_it_open = ((tt, refl), tt)
+
+asked_in_vain : AreAskedSo IsOpen (asked 0 Look Closed ∷ []) → ⊥
+asked_in_vain so = let is = so.1 in cc
+
+-- ---- Rendez that two processes share
+
+abbrev two_wait : System LatchState LatchCall LatchReply Unit Bool
+two_wait = latch_of (Waiting Begun ∷ Waiting Begun ∷ [])
+
+-- both found the latch closed
+abbrev both_closed : List (Move LatchCall LatchReply)
+both_closed =
+    record { by = 1; grain = Heard Look Closed } ∷ record { by = 0; grain = Heard Look Closed } ∷ []
+
+-- two that sleep in the first Rendez are not apart
+two_share_one : AreApart two_wait → ⊥
+two_share_one apart = let same = apart.apart both_closed 0 1 (rendez 0) 0 0 first second in cc
+  where
+    low : 0 < 2
+    low = omega arith
+
+    second_low : 1 < 2
+    second_low = omega arith
+
+    are : AreMoves two_wait both_closed
+    are = ((tt, (low, (refl, refl))), (second_low, (refl, refl)))
+
+    first : SleepsAfter two_wait both_closed 0 (rendez 0) 0
+    first = record { are = are; unrefused = ((tt, tt), tt); below = low; does = refl }
+
+    second : SleepsAfter two_wait both_closed 1 (rendez 0) 0
+    second = record { are = are; unrefused = ((tt, tt), tt); below = second_low; does = refl }
 
 -- ---- a table and a promise
 

@@ -6,6 +6,7 @@ pub mod Machine
 pub mod Parts
 pub mod Plays
 pub mod Programs
+pub mod Replies
 pub mod Runs
 pub mod Schedules
 pub mod StrictRuns

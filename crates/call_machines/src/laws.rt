@@ -9,6 +9,7 @@ ghost use Rattle.call_machines.specs.GrainEnds.{
   ObjectEndsHold,
   UnrefusedEndsHold,
 };
+ghost use Rattle.call_machines.specs.Replies.{SuchEndsHold};
 ghost use Rattle.call_machines.specs.Runs.{System};
 ghost use Rattle.call_machines.specs.Schedules.{RunsAreSchedules, SchedulesAreRuns};
 ghost use Rattle.call_machines.specs.StrictRuns.{StrictEndsHold};
@@ -70,8 +71,8 @@ pub fn runs_are_moves<A, Q, R, O, T>()
     ensures { (system : System A Q R O T) → RunsAreMoves system }
 {}
 
-/// If no run at the grain of calls deadlocks, no run of the calls does. Where no two processes sleep
-/// in one Rendez, refused sleeps may be left out.
+/// If no run at the grain of calls deadlocks, no run of the calls does. Where no two processes
+/// sleep in one Rendez, refused sleeps may be left out.
 pub fn coarse_ends_hold<A, Q, R, O, T>()
     ensures ends { (system : System A Q R O T) → CoarseEndsHold system }
     ensures refusals { (system : System A Q R O T) → NoSleepIsRefused system }
@@ -85,8 +86,12 @@ pub fn object_ends_hold<A, Q, R, O, T>()
 {}
 
 /// Where besides each call that sleeps asks again, and in vain where it was woken too early, runs
-/// may be left out in which a wait ends well before the object lets its call go on.
+/// may be left out in which a wait ends well before the object lets its call go on. So also of runs
+/// in which each reply is such a one.
 pub fn strict_ends_hold<A, Q, R, O, T>()
-    ensures { (system : System A Q R O T) → (goes : T → A → Bool)
+    ensures all { (system : System A Q R O T) → (goes : T → A → Bool)
         → StrictEndsHold system (λ object at. goes object at ≡ true) }
+    ensures such { (system : System A Q R O T) → (goes : T → A → Bool) → (comes : Q → R → Bool)
+        → SuchEndsHold system (λ request reply. comes request reply ≡ true)
+        (λ object at. goes object at ≡ true) }
 {}

@@ -1,17 +1,24 @@
 //! When runs of calls at several objects deadlock. The law is a function that does nothing: its
 //! contract is the law.
-ghost use Rattle.object_machines.specs.ObjectEnds.{ObjectsEndHold, WaitsAskInVain, WakeupsAreDueAll};
+ghost use Rattle.object_machines.specs.ObjectEnds.{
+  ObjectsEndHold,
+  UnwornEndHold,
+  WaitsAskInVain,
+  WakeupsAreDueAll,
+};
 
 use semaphore::laws::{states_are_sound, who_is_granted_is_released};
 
 /// Where no process goes on, nobody waits who was granted a unit or whose call was met; and who is
 /// woken before that asks in vain. So no run of the calls deadlocks, if in each run at the grain of
 /// calls that comes to where each process has ended or waits without either all have ended. Runs
-/// need not be looked at in which a sleep is refused, or a wait ends well before its object lets it.
+/// need not be looked at in which a sleep is refused, or a wait ends well before its object lets
+/// it. The same holds of the runs in which nothing is worn out.
 pub fn objects_end<P>()
     ensures due { WakeupsAreDueAll P }
     ensures vain { WaitsAskInVain P }
     ensures ends { ObjectsEndHold P }
+    ensures unworn { UnwornEndHold P }
 {
     who_is_granted_is_released();
     states_are_sound();

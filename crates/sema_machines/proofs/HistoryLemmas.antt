@@ -1,6 +1,7 @@
 -- The requests of a run of a semaphore's calls are one legal history, and each seat knows of it
 -- what its own requests tell.
-use Rattle.std.proofs.Common.{◌≡◌, ◌≢◌, ◌⊎◌, inl, inr, ◌<◌, ℕ, Bool, true, false, eqb, cond, Option, Some, None}
+use Rattle.std.proofs.Common.{◌≡◌, ◌≢◌, ◌⊎◌, inl, inr, ◌<◌, ℕ, Bool, true, false, eqb, cond, Option}
+use Rattle.std.proofs.Common.{Some, None}
 use Rattle.std.proofs.Common.{List, [], ◌∷◌, refl, sym, ◌∙◌, ap, subst, arith}
 use Rattle.std.specs.Prelude.{⊤, IfSome, slice_index_or}
 use Rattle.std.proofs.lemmas.Bool.Decides.{nat_tests}
@@ -115,6 +116,7 @@ module _ (sema : Sema) (value rendez : ℕ) (starts : List CallState) (none : Ca
   begins_by pid (Tries number at) begins = begins.0
   begins_by pid (Gives count at) begins = tt
 
+  -- a process starts with a call by its own seat, or with none
   pub starts_by : (pid : ℕ) → pid < sema.procs → IsBy pid (slice_index_or starts pid none)
   starts_by pid low = by (are.begin pid low)
     where

@@ -102,4 +102,5 @@ module _ {Seat Request Reply Inner Outer Out Other : Type 0}
                   after_is = makes.after_is;
                 };
               }
-          by other does over = absurd (let both = sym (ap (next_with (λ asked. asked) out) does) ∙ over in cc)
+          by other does over =
+              absurd (let both = sym (ap (next_with (λ asked. asked) out) does) ∙ over in cc)

@@ -41,7 +41,8 @@ use Rattle.sema_machines.specs.CallMachines.TryState.{Tried, Trying}
 use Rattle.sema_machines.specs.Holds.{Hold, HoldReply}
 use Rattle.sema_machines.specs.Holds.Hold.{Alone, ReleaseAndNext}
 use Rattle.sema_machines.specs.SemaEnds.{AreItsPrograms, calls_in, goes_on, is_granted}
-use Rattle.sema_machines.specs.SemaRuns.{AreItsCalls, BeginsBy, CallOut, CallState, account_in, idle}
+use Rattle.sema_machines.specs.SemaRuns.{AreItsCalls, BeginsBy, CallOut, CallState, account_in}
+use Rattle.sema_machines.specs.SemaRuns.{idle}
 use Rattle.sema_machines.specs.SemaRuns.{requests_of, seen_by, sema_system}
 use Rattle.sema_machines.specs.SemaRuns.CallOut.{Taken}
 use Rattle.sema_machines.specs.SemaRuns.CallState.{Gives, Takes, Tries}

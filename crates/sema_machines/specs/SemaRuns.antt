@@ -1,5 +1,6 @@
 -- Runs of a semaphore's calls: each process makes one call, by its own seat.
-use Rattle.std.specs.Prelude.{◌≡◌, ◌⊎◌, ◌≤◌, ◌<◌, ◌+◌, ◌-◌, ◌==◌, ℕ, true, false, if◌then◌else◌, Option}
+use Rattle.std.specs.Prelude.{◌≡◌, ◌⊎◌, ◌≤◌, ◌<◌, ◌+◌, ◌-◌, ◌==◌, ℕ, true, false, if◌then◌else◌}
+use Rattle.std.specs.Prelude.{Option}
 use Rattle.std.specs.Prelude.{Some, None, List, [], ◌∷◌, length, slice_index_or, Result, Ok}
 use Rattle.histories.specs.declared.account.Account.{Account}
 use Rattle.histories.specs.Account.{numbers_from}
@@ -56,7 +57,8 @@ abbrev pub taken_unit : Unit {0} → CallOut
 taken_unit unit = Taken got.Acquired
 
 abbrev pub call_does : Sema → CallState → Next Hold CallOut
-call_does sema (Takes seat at) = next_with (λ hold. hold) taken_unit ((acquire_machine sema seat).does at)
+call_does sema (Takes seat at) =
+    next_with (λ hold. hold) taken_unit ((acquire_machine sema seat).does at)
 call_does sema (Tries seat at) = next_with (λ hold. hold) Taken (try_does seat at)
 call_does sema (Gives count at) = next_with (λ hold. hold) Sum (release_does sema count at)
 

@@ -128,7 +128,8 @@ module _ (space : TagSpace) (offered : Offered) (first : Point Member)
         between = record { state = Calls more.between.state; at = more.between.at };
         before = carried times more.between more.before;
         came = more.came;
-        done = served (does table rendez more.between.state) more.came more.between.at now.at more.done;
+        done = served (does table rendez more.between.state) more.came more.between.at now.at
+            more.done;
         goes_on = ap (λ (s : WaitState ℕ). Calls s) more.goes_on
             ∙ goes_alone more.between.state more.came more.between.at now.at more.done;
       }
@@ -244,7 +245,8 @@ module _ (space : TagSpace) (offered : Offered) (first : Point Member)
           done = done;
           goes_on = refl;
         },
-        λ again. absurd (never_again at came old new (served (does table rendez at) came old new done)
+        λ again. absurd (never_again at came old new
+            (served (does table rendez at) came old new done)
             again),
       )
 
@@ -372,7 +374,8 @@ module _ (space : TagSpace) (offered : Offered) (first : Point Member)
   rendezvouses answer after makes =
       let waited = subst (λ (r : RendezId). Waited (meeting space offered) r first answer after)
       (sym its_own) (meets answer after makes) in
-      let so = came space offered first.seat rest first.seat.rendez first.process answer after waited in
+      let so = came space offered first.seat rest first.seat.rendez first.process answer after
+      waited in
       record {
         member = rests_after answer after (meets answer after makes);
         same = so.same;

@@ -1,0 +1,379 @@
+-- Runs of calls at two semaphores and a tag space, computed: a wait at one object that ends by a
+-- call at it, and deadlocks across two objects.
+use Rattle.std.proofs.Common.{◌≡◌, ◌≢◌, ◌≤◌, ◌<◌, inl, inr, ℕ, zero, suc, true, false, Option, Some}
+use Rattle.std.proofs.Common.{None, List, [], ◌∷◌, Ok, Result, refl, arith}
+use Rattle.std.proofs.lemmas.Bool.{false≢true}
+use Rattle.kernel_lock.specs.declared.locked.Locked.{Locked}
+use Rattle.kernel_lock.specs.Seats.{limit_of, opening_of}
+use Rattle.sync_base.specs.declared.fault.Fault.{Fault}
+use Rattle.semaphore.specs.declared.acquiring.Semacquired.TheVariants as got
+use Rattle.semaphore.specs.declared.sema.Sema.{Sema}
+use Rattle.semaphore.specs.declared.sema_object.SemaCall.{SemaCall}
+use Rattle.semaphore.specs.declared.sema_object.SemaCall.TheVariants.{Acquire, AcquireNow}
+use Rattle.semaphore.specs.declared.sema_object.SemaReply.{SemaReply}
+use Rattle.semaphore.specs.declared.sema_object.SemaReply.TheVariants as reply
+use Rattle.semaphore.specs.declared.sema_object.Stage.TheVariants.{Granted, Idle as Resting}
+use Rattle.semaphore.specs.Units.{SemaState, passed}
+use Rattle.semaphore.specs.Units as units
+use Rattle.tag_space.specs.declared.calls.GroupCall.{GroupCall}
+use Rattle.tag_space.specs.declared.calls.GroupCall.TheVariants.{Call}
+use Rattle.tag_space.specs.declared.calls.GroupReply.{GroupReply}
+use Rattle.tag_space.specs.declared.calls.GroupReply.TheVariants as group
+use Rattle.tag_space.specs.declared.place.Place.{Place}
+use Rattle.tag_space.specs.declared.space.TagSpace.{TagSpace}
+use Rattle.tag_space.specs.GroupObject as object
+use Rattle.call_machines.specs.Grain.{coarse_of, moves_of}
+use Rattle.call_machines.specs.GrainEnds.{IsObjectStuck}
+use Rattle.call_machines.specs.Machine.{Next, Outcome}
+use Rattle.call_machines.specs.Programs.{Listed, ProgramState, list_program, listed}
+use Rattle.call_machines.specs.Programs.ProgramState.{Ended, In}
+use Rattle.call_machines.specs.Runs.{IsOfCalls, Step, System}
+use Rattle.call_machines.specs.Schedules.{position_of, run_of}
+use Rattle.call_machines.specs.StrictRuns.{NeverStrictlyStuck}
+use Rattle.call_machines.specs.WaitTables.WaitState.{Asking, Begun, Waits}
+use Rattle.call_machines.proofs.GrainLemmas.{runs_are_moves}
+use Rattle.call_machines.proofs.ScheduleLemmas.{schedules_are_runs}
+use Rattle.sema_machines.specs.CallMachines.ReleaseState.{Releasing}
+use Rattle.sema_machines.specs.CallMachines.TryState.{Trying}
+use Rattle.sema_machines.specs.Holds.Hold.{Alone}
+use Rattle.sema_machines.specs.SemaRuns.CallOut.{Taken}
+use Rattle.sema_machines.specs.SemaRuns.CallState.{Gives, Takes, Tries}
+use Rattle.sema_machines.proofs.HoldLemmas.{replied_alone}
+use Rattle.space_machines.specs.MeetMachine.MeetState.{Calls}
+use Rattle.object_machines.specs.ObjectCalls.{ObjectCall, ObjectOut, ObjectReply}
+use Rattle.object_machines.specs.ObjectCalls.{ObjectRequest, ObjectStates, Objects, object_after}
+use Rattle.object_machines.specs.ObjectCalls.{object_answer, object_does, object_goes_on}
+use Rattle.object_machines.specs.ObjectCalls.ObjectCall.{AtSema, InSpace}
+use Rattle.object_machines.specs.ObjectCalls.ObjectOut.{FromSema}
+use Rattle.object_machines.specs.ObjectCalls.ObjectReply.{BySema, BySpace}
+use Rattle.object_machines.specs.ObjectCalls.ObjectRequest.{OfSema, OfSpace}
+use Rattle.object_machines.specs.ObjectEnds.{is_unworn}
+use Rattle.object_machines.specs.ObjectEnds.{AreApart, AreInOneWorld, BeginsBy, GoesOn, IsSemaHere}
+use Rattle.object_machines.specs.ObjectEnds.{calls_at, goes_on, sema_row, space_row}
+
+module _ (lock : Locked SemaState SemaCall SemaReply)
+    (space_lock : Locked (List Place) GroupCall GroupReply) (limited : limit_of space_lock ≡ 2)
+    (opened : opening_of object.group space_lock ≡ object.opening 2 0) where
+  -- semaphores for two processes, with the Rendez 0 and 1, and 2 and 3
+  abbrev first_sema : Sema
+  first_sema = record { lock = lock; first = 0; procs = 2; row = omega arith }
+
+  abbrev second_sema : Sema
+  second_sema = record { lock = lock; first = 2; procs = 2; row = omega arith }
+
+  -- a space of two members, with the Rendez 4 and 5
+  abbrev space : TagSpace
+  space =
+      record {
+        lock = space_lock;
+        first = record { 0 = 4 };
+        procs = 2;
+        some = omega arith;
+        limited = limited;
+        opened = opened;
+        numbered = omega arith;
+      }
+
+  -- two semaphores with these values, and the space
+  abbrev objects_with : ℕ → ℕ → Objects
+  objects_with value other =
+      record {
+        semas = record { sema = first_sema; value = value }
+            ∷ record { sema = second_sema; value = other }
+            ∷ [];
+        none = record { sema = first_sema; value = 0 };
+        space = space;
+        procs = 2;
+        rendez = 6;
+      }
+
+  abbrev take : ℕ → ℕ → ObjectCall
+  take number pid = AtSema number (Takes pid Begun)
+
+  abbrev give : ℕ → ObjectCall
+  give number = AtSema number (Gives 1 Releasing)
+
+  abbrev meet : ℕ → ℕ → ObjectCall
+  meet pid value =
+      InSpace (record {
+        member = pid;
+        offered = record { tag = record { 0 = 7 }; value = value };
+        at = Calls Begun;
+      })
+
+  abbrev Stand : Type 0
+  Stand = ProgramState (Listed ObjectCall) ObjectCall
+
+  abbrev Whole : Type 0
+  Whole = System Stand ObjectRequest ObjectReply Unit ObjectStates
+
+  -- two processes that make these calls, one after the other
+  abbrev they_call : Objects → List ObjectCall → List ObjectCall → Whole
+  they_call objects first second =
+      calls_at objects list_program (listed first ∷ listed second ∷ [])
+
+  -- ---- a wait at one object that ends by a call at it
+
+  -- the first takes a unit and then meets, and the second gives the unit and then meets
+  abbrev in_turn : Whole
+  in_turn =
+      they_call (objects_with 0 0) (take 1 0 ∷ meet 0 10 ∷ []) (give 1 ∷ meet 1 20 ∷ [])
+
+  abbrev its_schedule : List ℕ
+  its_schedule =
+      0 ∷ 0 ∷ 0 ∷ 1 ∷ 1 ∷ 1 ∷ 1 ∷ 0 ∷ 0 ∷ 0 ∷ 0 ∷ 0 ∷ 0 ∷ 1 ∷ 1 ∷ 1 ∷ 1 ∷ 1 ∷ 0 ∷ 0 ∷ 0 ∷ []
+
+  both_end : (position_of in_turn its_schedule).states ≡ Ended ∷ Ended ∷ []
+  unfolding passed
+  both_end = refl
+
+  -- the first process was woken at the second semaphore, and in the space
+  its_levels : (coarse_of in_turn (moves_of in_turn (run_of in_turn its_schedule))).levels
+      ≡ 0 ∷ 0 ∷ 1 ∷ 0 ∷ 1 ∷ 0 ∷ []
+  unfolding passed
+  its_levels = refl
+
+  -- ---- a deadlock across a semaphore and the space
+
+  -- the second meets before it gives the unit
+  abbrev the_wrong_way : Whole
+  the_wrong_way =
+      they_call (objects_with 0 0) (take 1 0 ∷ meet 0 10 ∷ []) (meet 1 20 ∷ give 1 ∷ [])
+
+  abbrev both_asleep : List (Step ObjectRequest ObjectReply)
+  both_asleep = run_of the_wrong_way (1 ∷ 1 ∷ 1 ∷ 0 ∷ 0 ∷ 0 ∷ [])
+
+  zero_there : 0 < 2
+  zero_there = omega arith
+
+  one_there : 1 < 2
+  one_there = omega arith
+
+  both_is_run : IsOfCalls the_wrong_way both_asleep
+  both_is_run =
+      (schedules_are_runs the_wrong_way (1 ∷ 1 ∷ 1 ∷ 0 ∷ 0 ∷ 0 ∷ [])
+      (one_there, (one_there, (one_there, (zero_there, (zero_there, (zero_there, tt))))))).0
+
+  -- the objects tell it: neither lets the call at it go on
+  both_are_stuck : IsObjectStuck the_wrong_way (GoesOn (objects_with 0 0))
+      (coarse_of the_wrong_way (moves_of the_wrong_way both_asleep))
+  both_are_stuck zero low =
+      inr (record {
+        rendez = record { 0 = 2 };
+        number = 0;
+        does = refl;
+        none = refl;
+        stays = λ goes. false≢true goes;
+      })
+  both_are_stuck (suc zero) low =
+      inr (record {
+        rendez = record { 0 = 5 };
+        number = 0;
+        does = refl;
+        none = refl;
+        stays = λ goes. false≢true goes;
+      })
+  both_are_stuck (suc (suc pid)) low = let two : suc (suc pid) < 2 = low in absurd (omega arith)
+
+  told_by_the_objects : NeverStrictlyStuck the_wrong_way (GoesOn (objects_with 0 0)) → ⊥
+  told_by_the_objects never =
+      never (moves_of the_wrong_way both_asleep)
+      (runs_are_moves the_wrong_way both_asleep both_is_run).0
+      ((tt, tt), tt) ((tt, tt), tt) both_are_stuck zero zero_there
+
+  -- ---- a deadlock across two semaphores
+
+  -- each takes the unit of one, and then that of the other
+  abbrev crossed : Whole
+  crossed =
+      they_call (objects_with 1 1) (take 0 0 ∷ take 1 0 ∷ give 0 ∷ give 1 ∷ [])
+      (take 1 1 ∷ take 0 1 ∷ give 0 ∷ give 1 ∷ [])
+
+  abbrev last_two : List ObjectCall
+  last_two = give 0 ∷ give 1 ∷ []
+
+  each_has_one : (position_of crossed (1 ∷ 1 ∷ 1 ∷ 0 ∷ 0 ∷ 0 ∷ 1 ∷ 0 ∷ [])).states
+      ≡ In (record { at = take 1 0; rest = last_two }) (AtSema 1 (Takes 0 (Waits 0)))
+      ∷ In (record { at = take 0 1; rest = last_two }) (AtSema 0 (Takes 1 (Waits 0)))
+      ∷ []
+  each_has_one = refl
+
+  -- one after the other they end
+  one_by_one : (position_of crossed
+      (1 ∷ 1 ∷ 1 ∷ 1 ∷ 0 ∷ 0 ∷ 0 ∷ 0 ∷ [])).states
+      ≡ Ended ∷ Ended ∷ []
+  unfolding passed
+  one_by_one = refl
+
+  -- ---- a call that depends on what another object answered
+
+  -- it meets if the semaphore has a unit, and else ends
+  abbrev call_of : ℕ → ObjectCall
+  call_of zero = AtSema 0 (Tries 0 Trying)
+  call_of place = meet 0 10
+
+  abbrev if_taken : ℕ → Result ObjectOut Fault → Option ℕ
+  if_taken zero (Ok (FromSema (Taken got.Acquired))) = Some 1
+  if_taken place answer = None
+
+  abbrev it_looks : ℕ
+      → System (ProgramState ℕ ObjectCall) ObjectRequest ObjectReply Unit ObjectStates
+  it_looks value =
+      calls_at (objects_with value 0) (record { call = call_of; next = if_taken })
+      (Some 0 ∷ None ∷ [])
+
+  it_meets : (position_of (it_looks 1) (0 ∷ [])).states ≡ In 1 (meet 0 10) ∷ Ended ∷ []
+  it_meets = refl
+
+  it_ends : (position_of (it_looks 0) (0 ∷ [])).states ≡ Ended ∷ Ended ∷ []
+  it_ends = refl
+
+  -- ---- row by row
+
+  abbrev objects : Objects
+  objects = objects_with 1 0
+
+  abbrev at_first : ObjectStates
+  at_first =
+      record {
+        semas = units.opening 1 2 0 ∷ units.opening 0 2 0 ∷ [];
+        space = object.opening 2 0;
+      }
+
+  -- a request is answered by the semaphore that it names
+  the_first_has_a_unit : object_answer objects at_first (OfSema 0 (Alone (AcquireNow 0)))
+      ≡ BySema (replied_alone reply.Acquired)
+  the_first_has_a_unit = refl
+
+  the_second_has_none : object_answer objects at_first (OfSema 1 (Alone (AcquireNow 0)))
+      ≡ BySema (replied_alone reply.NotNow)
+  the_second_has_none = refl
+
+  the_space_is_asked : object_answer objects at_first (OfSpace (Call 0 (record { 0 = 7 }) 10))
+      ≡ BySpace (group.Wait 0)
+  the_space_is_asked = refl
+
+  -- and touches no other
+  takes_from_the_first : object_after objects at_first (OfSema 0 (Alone (AcquireNow 0)))
+      ≡ record at_first { semas = units.opening 0 2 0 ∷ units.opening 0 2 0 ∷ [] }
+  takes_from_the_first = refl
+
+  keeps_the_semaphores :
+      (object_after objects at_first (OfSpace (Call 0 (record { 0 = 7 }) 10))).semas
+      ≡ at_first.semas
+  keeps_the_semaphores = refl
+
+  -- a call sleeps in the Rendez of its object
+  sleeps_at_the_second : object_does objects (AtSema 1 (Takes 1 (Waits 3)))
+      ≡ Next.Sleep (record { 0 = 3 }) 3
+  sleeps_at_the_second = refl
+
+  sleeps_in_the_space : object_does objects (InSpace (record {
+    member = 1;
+    offered = record { tag = record { 0 = 7 }; value = 20 };
+    at = Calls (Waits 2);
+  })) ≡ Next.Sleep (record { 0 = 5 }) 2
+  sleeps_in_the_space = refl
+
+  -- and is woken there
+  goes_on_when_woken : object_goes_on objects (AtSema 1 (Takes 1 (Waits 3)))
+      (Outcome.Slept (Ok tt)) ≡ AtSema 1 (Takes 1 Asking)
+  goes_on_when_woken = refl
+
+  -- what another object replied is nothing to it
+  hears_its_own_alone : object_goes_on objects (AtSema 0 (Tries 0 Trying))
+      (Outcome.Replied (BySpace group.Gone)) ≡ AtSema 0 (Tries 0 Trying)
+  hears_its_own_alone = refl
+
+  so_does_one_in_the_space : object_goes_on objects (meet 0 10)
+      (Outcome.Replied (BySema (replied_alone reply.Granted))) ≡ meet 0 10
+  so_does_one_in_the_space = refl
+
+  -- who goes on is told by its own object
+  abbrev one_was_granted : ObjectStates
+  one_was_granted =
+      record at_first {
+        semas = units.opening 1 2 0
+            ∷ record (units.opening 0 2 0) { stages = Resting ∷ Granted ∷ [] }
+            ∷ [];
+      }
+
+  its_semaphore_lets_it : goes_on objects one_was_granted (AtSema 1 (Takes 1 (Waits 0))) ≡ true
+  its_semaphore_lets_it = refl
+
+  another_does_not : goes_on objects one_was_granted (AtSema 0 (Takes 1 (Waits 0))) ≡ false
+  another_does_not = refl
+
+  the_space_does_not : goes_on objects one_was_granted (meet 1 20) ≡ false
+  the_space_does_not = refl
+
+  -- a semaphore that is not there is not called
+  no_third : BeginsBy objects 0 (take 2 0) → ⊥
+  no_third begins = let low : 2 < 2 = begins.0 in absurd (omega arith)
+
+  by_another_seat : BeginsBy objects 0 (take 0 1) → ⊥
+  by_another_seat begins = let seat = begins.1.0 in cc
+
+  by_another_member : BeginsBy objects 0 (meet 1 20) → ⊥
+  by_another_member begins = let member = begins.member_is in cc
+
+  -- these are in one world
+  are_in_one_world : AreInOneWorld objects
+  are_in_one_world =
+      record {
+        semas = here;
+        room = record { members = omega arith; row = omega arith };
+        semas_apart = apart;
+        space_apart = before;
+      }
+    where
+      here : (number : ℕ) → number < 2 → IsSemaHere objects number
+      here zero low =
+          record { fits = record { low = omega arith; row = omega arith }; procs_are = refl }
+      here (suc zero) low =
+          record { fits = record { low = omega arith; row = omega arith }; procs_are = refl }
+      here (suc (suc number)) low = absurd (let two : suc (suc number) < 2 = low in omega arith)
+
+      apart : (number other : ℕ) → number < 2 → other < 2 → number ≢ other
+          → AreApart (sema_row objects number) (sema_row objects other)
+      apart zero zero low low_too differs = absurd (differs refl)
+      apart zero (suc zero) low low_too differs = inl (omega arith)
+      apart (suc zero) zero low low_too differs = inr (omega arith)
+      apart (suc zero) (suc zero) low low_too differs = absurd (differs refl)
+      apart (suc (suc number)) other low low_too differs =
+          absurd (let two : suc (suc number) < 2 = low in omega arith)
+      apart number (suc (suc other)) low low_too differs =
+          absurd (let two : suc (suc other) < 2 = low_too in omega arith)
+
+      before : (number : ℕ) → number < 2 → AreApart (sema_row objects number) (space_row objects)
+      before zero low = inl (omega arith)
+      before (suc zero) low = inl (omega arith)
+      before (suc (suc number)) low = absurd (let two : suc (suc number) < 2 = low in omega arith)
+
+-- ---- what is worn out
+
+grants_are_worn : is_unworn (OfSema 0 (Alone (Acquire 0))) (BySema (replied_alone reply.Worn))
+    ≡ false
+grants_are_worn = refl
+
+a_wait_wears_nothing : is_unworn (OfSema 0 (Alone (Acquire 0)))
+    (BySema (replied_alone (reply.Wait 3))) ≡ true
+a_wait_wears_nothing = refl
+
+meetings_are_worn : is_unworn (OfSpace (Call 0 (record { 0 = 7 }) 10)) (BySpace group.Worn) ≡ false
+meetings_are_worn = refl
+
+a_meeting_wears_nothing : is_unworn (OfSpace (Call 0 (record { 0 = 7 }) 10))
+    (BySpace (group.Met 20 1 3)) ≡ true
+a_meeting_wears_nothing = refl
+
+-- two rows that have a Rendez in common are not apart
+two_share_one : AreApart (record { first = 0; size = 2 }) (record { first = 1; size = 2 }) → ⊥
+two_share_one (inl before) = let is : 2 ≤ 1 = before in omega arith
+two_share_one (inr after) = let is : 3 ≤ 0 = after in omega arith
+
+one_is_before : AreApart (record { first = 0; size = 2 }) (record { first = 2; size = 2 })
+one_is_before = inl (omega arith)
+
+one_is_behind : AreApart (record { first = 4; size = 1 }) (record { first = 2; size = 2 })
+one_is_behind = inr (omega arith)
