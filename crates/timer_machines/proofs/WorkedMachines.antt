@@ -31,7 +31,7 @@ use Rattle.timer_machines.specs.Requests.{IsMarkedBy, ServesTimed, TimedReply, T
 use Rattle.timer_machines.specs.Requests.{TimedSeat}
 use Rattle.timer_machines.specs.Requests.TimedReply.{FromDevice, FromTimers}
 use Rattle.timer_machines.specs.Requests.TimedRequest.{ToDevice, ToTimers}
-use Rattle.timer_machines.specs.TimedSleeps.{sleep_does, sleep_goes_on}
+use Rattle.timer_machines.specs.TimedSleeps.{ServesNone, sleep_does, sleep_goes_on}
 use Rattle.timer_machines.specs.TimedSleeps.SleepState.{Sleeping, Slept}
 use Rattle.timer_machines.specs.TimedMachines.{Deadline, TimedState, ended_with, left_over}
 use Rattle.timer_machines.specs.TimedMachines.{timed_answer, timed_does, timed_goes_on}
@@ -279,6 +279,10 @@ it_has_slept = refl
 it_is_over_then : sleep_goes_on Sleeping (Outcome.Slept (Err fault.DoubleSleep))
     ≡ Slept (Err fault.DoubleSleep)
 it_is_over_then = refl
+
+-- it has no device that would serve it
+is_served_nothing : (request reply : ⊥) (old new : Unit {0}) → ServesNone request reply old new → ⊥
+is_served_nothing request reply old new serves = serves
 
 -- ---- its two seats
 
