@@ -211,6 +211,14 @@ module _ (s : State) (pid : ℕ) where
   wake_made (phase.Owing r l) rendez level = refl
   wake_made (phase.Holding q r l) rendez level = refl
 
+  -- a note is never answered that its process is parked
+  note_parks : (there cell : Bool)
+      → (if there then (if cell then answer.Noted else answer.NoRendez) else answer.NoProc)
+      ≡ answer.Parked → ⊥
+  note_parks true true is = cc
+  note_parks true false is = cc
+  note_parks false cell is = cc
+
   parked_so : {Request Out : Type 0} (n : Next Request Out) (stage : Phase) (event : Event)
       → phase_of s pid ≡ stage → InPhase n stage → event_for pid stage n ≡ Some event
       → answer_to s event ≡ answer.Parked → ParkedSo n
@@ -230,6 +238,12 @@ module _ (s : State) (pid : ℕ) where
       = ap (λ (p : Phase). event_in pid p (core.Note (proc pid) set)) (sym fits) ∙ same in
       absurd (never_in phase.Idle (Note (proc pid) set) refl
       (answered phase.Idle (Note (proc pid) set) (at ∙ fits) refl (ap (answer_to s) idle ∙ told)))
+  parked_so (Next.Post to set) stage event at fits is told =
+      let same : event_in pid stage (core.Note to set) ≡ event = cc in
+      let idle : event_in pid phase.Idle (core.Note to set) ≡ event
+      = ap (λ (p : Phase). event_in pid p (core.Note to set)) (sym fits) ∙ same in
+      absurd (note_parks (nat_lt to.0 (length s.phases)) (nat_lt to.0 (length s.flags))
+      (ap (answer_to s) idle ∙ told))
   parked_so Next.Drain stage event at fits is told =
       let same : event_in pid stage core.Drain ≡ event = cc in
       let idle : event_in pid phase.Idle core.Drain ≡ event

@@ -2,12 +2,13 @@
 use Rattle.std.proofs.Common.{◌≡◌, ◌≢◌, ◌⊎◌, inl, inr, ◌<◌, ◌==◌, ℕ, Bool, true, false, length}
 use Rattle.std.proofs.Common.{nat_lt, if◌then◌else◌, Some, refl, sym, ◌∙◌, ap, subst}
 use Rattle.std.proofs.Common.{arith}
+use Rattle.std.proofs.lemmas.Bool.Decides.{nat_tests}
 use Rattle.std.specs.Prelude.{⊤, List, max, slice_index, slice_set, ◌≤◌}
 use Rattle.sync_base.specs.declared.ids.Pid.{Pid}
 use Rattle.sync_base.specs.declared.ids.RendezId.{RendezId}
 use Rattle.sync_base.specs.declared.limits.TheConstants.{TOP_LEVEL}
 use Rattle.sync_base.specs.declared.note.NoteSet.{NoteSet}
-use Rattle.sync_base.specs.NoteSet.{no_notes}
+use Rattle.sync_base.specs.NoteSet.{joined, no_notes}
 use Rattle.sleep_core.specs.declared.answer.Answer.{Answer}
 use Rattle.sleep_core.specs.declared.answer.Answer.TheVariants as answer
 use Rattle.sleep_core.specs.declared.event.Event.{Event}
@@ -22,12 +23,15 @@ use Rattle.sleep_core.specs.Table.{has_notes, phase_after}
 use Rattle.schedules.specs.Position.{is_idle}
 use Rattle.schedules.specs.Program.{event_in, proc}
 use Rattle.schedules.specs.declared.call.Call.TheVariants as core
-use Rattle.call_machines.specs.Grain.{Grain, May, event_grain, levels_by, notes_by, outcome_by}
+use Rattle.call_machines.specs.Grain.{Grain, May, grain_of, levels_by, notes_by, outcome_by}
+use Rattle.call_machines.specs.Grain.{receiver}
+use Rattle.call_machines.specs.Grain.Grain.{Posted}
 use Rattle.call_machines.specs.Machine.{Next, Outcome}
 use Rattle.call_machines.specs.Runs.{System, event_for, outcome_of}
 use Rattle.call_machines.proofs.GrainNotes.{drain_flags, drain_told}
 use Rattle.call_machines.proofs.GrainNotes.{NotesKept, by_mark, by_nobody, clear_flags, clear_told}
-use Rattle.call_machines.proofs.GrainNotes.{note_flags, noted_with, others_flags, owed, own_flags}
+use Rattle.call_machines.proofs.GrainNotes.{note_flags, note_lost, noted_with, others_flags, owed}
+use Rattle.call_machines.proofs.GrainNotes.{own_flags}
 use Rattle.call_machines.proofs.GrainNotes.{quiet_after, returned_rises}
 use Rattle.call_machines.proofs.RunLemmas.{IsThere}
 use Rattle.call_machines.proofs.SleepEvents.{no_notes_at_all}
@@ -67,6 +71,7 @@ idle_fits (Next.Sleep rendez number) = tt
 idle_fits (Next.Wake rendez level) = tt
 idle_fits (Next.Ask request) = refl
 idle_fits (Next.Return set) = refl
+idle_fits (Next.Post pid set) = refl
 idle_fits Next.Drain = refl
 idle_fits (Next.Over answer) = refl
 
@@ -134,24 +139,51 @@ module _ {At Request Reply Out Object : Type 0} (system : System At Request Repl
     -- what its process did is over
     pub over : is_idle stage ≡ true
     -- the process may move by this grain
-    pub may : May system object (flags_of s pid).notes n (event_grain system event told)
+    pub may : May system object (flags_of s pid).notes n (grain_of system n event told)
     -- its machine goes on by it as by the event
-    pub hears : ◌≡◌ {A = Outcome Reply} (outcome_by (event_grain system event told))
+    pub hears : ◌≡◌ {A = Outcome Reply} (outcome_by (grain_of system n event told))
         (outcome_of event told)
+    -- it changes no notes but those of its process
+    pub own : receiver pid (grain_of system n event told) ≡ pid
     -- so do the notes of its process
     pub ours : (flags_of (world_after s event) pid).notes
-        ≡ notes_by (flags_of s pid).notes (event_grain system event told)
+        ≡ notes_by (flags_of s pid).notes (grain_of system n event told)
     -- the notes of all others stay
     pub others : (p : ℕ) → p ≢ pid
         → (flags_of (world_after s event) p).notes ≡ (flags_of s p).notes
     -- and levels that are low stay so
-    pub levels : LevelsStay n event (event_grain system event told)
+    pub levels : LevelsStay n event (grain_of system n event told)
+
+  -- or it has posted notes to another, if that is there
+  pub record IsPost (n : Next Request Out) (event : Event) (told : Answer) (stage : Phase)
+      : Type 0 where
+    -- to this process
+    pub to : Pid
+    -- these notes
+    pub set : NoteSet
+    -- as its machine does
+    pub does : n ≡ Next.Post to set
+    -- that is over
+    pub over : is_idle stage ≡ true
+    -- and its machine goes on
+    pub hears : ◌≡◌ {A = Outcome Reply} Outcome.Went (outcome_of event told)
+    -- the notes of whom it posted to
+    pub theirs : to.0 < length s.phases
+        → (flags_of (world_after s event) to.0).notes ≡ joined (flags_of s to.0).notes set
+    -- which has none if it is not there
+    pub lost : length s.phases ≤ to.0 → NotesKept s (world_after s event)
+    -- the notes of all others stay
+    pub others : (p : ℕ) → p ≢ to.0
+        → (flags_of (world_after s event) p).notes ≡ (flags_of s p).notes
+    -- and levels that are low stay so
+    pub levels : LevelsStay n event (Posted to set)
 
   -- an event is the last of what the machine does, or not
   abbrev pub ComesTo : Next Request Out → Phase → Event → Answer → Type 0
   ComesTo n stage event told =
       IsNone n event (phase_after told event stage)
-      ⊎ IsMove n event told (phase_after told event stage)
+      ⊎ (IsMove n event told (phase_after told event stage)
+      ⊎ IsPost n event told (phase_after told event stage))
 
   -- ---- a sleep
 
@@ -184,41 +216,45 @@ module _ {At Request Reply Out Object : Type 0} (system : System At Request Repl
   post_so own number true true false true kept =
       inl (record { busy = refl; fits = (refl, refl); notes = kept })
   post_so own number true true true free kept =
-      inr (record {
+      inr (inl (record {
         over = refl;
         may = (own, number, refl, tt);
         hears = refl;
+        own = refl;
         ours = kept pid;
         others = λ p away. kept p;
         levels = stays_low (Post (proc pid) own number);
-      })
+      }))
   post_so own number true true false false kept =
-      inr (record {
+      inr (inl (record {
         over = refl;
         may = (own, number, refl, tt);
         hears = refl;
+        own = refl;
         ours = kept pid;
         others = λ p away. kept p;
         levels = stays_low (Post (proc pid) own number);
-      })
+      }))
   post_so own number true false top free kept =
-      inr (record {
+      inr (inl (record {
         over = refl;
         may = (own, number, refl, tt);
         hears = refl;
+        own = refl;
         ours = kept pid;
         others = λ p away. kept p;
         levels = stays_low (Post (proc pid) own number);
-      })
+      }))
   post_so own number false cell top free kept =
-      inr (record {
+      inr (inl (record {
         over = refl;
         may = (own, number, refl, tt);
         hears = refl;
+        own = refl;
         ours = kept pid;
         others = λ p away. kept p;
         levels = stays_low (Post (proc pid) own number);
-      })
+      }))
 
   -- a sleep is over
   clear_so : (own : RendezId) (number : ℕ) (stage : Phase) (some : Bool)
@@ -229,23 +265,25 @@ module _ {At Request Reply Out Object : Type 0} (system : System At Request Repl
       → ComesTo (Next.Sleep own number) stage (Clear (proc pid))
       (if some then answer.Interrupted (flags_of s pid).notes else answer.Cleared)
   clear_so own number stage true is own_notes others =
-      inr (record {
+      inr (inl (record {
         over = refl;
         may = (own, number, refl, is, refl);
         hears = refl;
+        own = refl;
         ours = own_notes;
         others = others;
         levels = stays_low (Clear (proc pid));
-      })
+      }))
   clear_so own number stage false is own_notes others =
-      inr (record {
+      inr (inl (record {
         over = refl;
         may = (own, number, refl, is);
         hears = refl;
+        own = refl;
         ours = own_notes ∙ sym (no_notes_at_all (flags_of s pid).notes is);
         others = others;
         levels = stays_low (Clear (proc pid));
-      })
+      }))
 
   module _ (there : IsThere s pid) (sized : length s.returned ≡ system.rendez)
       (posted : length s.posted ≡ system.rendez) where
@@ -308,14 +346,15 @@ module _ {At Request Reply Out Object : Type 0} (system : System At Request Repl
     raise_so rendez level answer.Owing is row kept =
         inl (record { busy = refl; fits = (refl, refl); notes = kept })
     raise_so rendez level said is row kept =
-        inr (record {
+        inr (inl (record {
           over = refl;
           may = (rendez, level, refl);
           hears = refl;
+          own = refl;
           ours = kept pid;
           others = λ p away. kept p;
           levels = λ levels low r within. by levels low r within (same_or_not r rendez.0);
-        })
+        }))
       where
         by : (levels : List ℕ) → LowIn levels s → (r : ℕ) → r < system.rendez
             → (r ≡ rendez.0) ⊎ (r ≢ rendez.0)
@@ -371,14 +410,15 @@ module _ {At Request Reply Out Object : Type 0} (system : System At Request Repl
         → NotesKept s (world_after s (Take (proc pid)))
         → ComesTo (Next.Wake rendez level) (phase.Owing r l) (Take (proc pid)) said
     take_so rendez level r l answer.Nobody at fits is kept =
-        inr (record {
+        inr (inl (record {
           over = refl;
           may = (rendez, level, refl);
           hears = refl;
+          own = refl;
           ours = kept pid;
           others = λ p away. kept p;
           levels = level_so (Take (proc pid)) rendez level r l fits (by_nobody s pid r l at is);
-        })
+        }))
     take_so rendez level r l (answer.Holding sleeper) at fits is kept =
         inl (record { busy = refl; fits = fits; notes = kept })
     take_so rendez level r l said at fits is kept =
@@ -390,15 +430,16 @@ module _ {At Request Reply Out Object : Type 0} (system : System At Request Repl
         → NotesKept s (world_after s (Mark (proc pid)))
         → ComesTo (Next.Wake rendez level) (phase.Holding q r l) (Mark (proc pid)) said
     mark_so rendez level q r l (answer.Marked sleeper) at fits is kept =
-        inr (record {
+        inr (inl (record {
           over = refl;
           may = (rendez, level, refl);
           hears = refl;
+          own = refl;
           ours = kept pid;
           others = λ p away. kept p;
           levels = level_so (Mark (proc pid)) rendez level r l fits
               (by_mark s pid q sleeper r l at is);
-        })
+        }))
     mark_so rendez level q r l said at fits is kept =
         inl (record { busy = refl; fits = fits; notes = kept })
 
@@ -424,16 +465,17 @@ module _ {At Request Reply Out Object : Type 0} (system : System At Request Repl
         → ComesTo (Next.Return set) phase.Idle (Note (proc pid) set)
         (answer_to s (Note (proc pid) set))
     by_return set at =
-        inr (record {
+        inr (inl (record {
           over = ap is_idle (note_idle (answer_to s (Note (proc pid) set)) (proc pid) set);
           may = refl;
           hears = refl;
+          own = refl;
           levels = stays_low (Note (proc pid) set);
           ours = own_flags s (world_after s (Note (proc pid) set)) pid (noted_with s pid set) there
-              (note_flags s pid set there at);
+              (note_flags s pid set there);
           others = others_flags s (world_after s (Note (proc pid) set)) pid (noted_with s pid set)
-              there (note_flags s pid set there at);
-        })
+              there (note_flags s pid set there);
+        }))
 
     -- ---- notes that it takes
 
@@ -441,16 +483,48 @@ module _ {At Request Reply Out Object : Type 0} (system : System At Request Repl
         → ComesTo Next.Drain phase.Idle (Drain (proc pid)) (answer_to s (Drain (proc pid)))
     by_drain at =
         subst (ComesTo Next.Drain phase.Idle (Drain (proc pid))) (sym (drain_told s pid there at))
-        (inr (record {
+        (inr (inl (record {
           over = refl;
           may = (refl, refl);
           hears = refl;
+          own = refl;
           levels = stays_low (Drain (proc pid));
           ours = own_flags s (world_after s (Drain (proc pid))) pid no_flags there
               (drain_flags s pid there at);
           others = others_flags s (world_after s (Drain (proc pid))) pid no_flags there
               (drain_flags s pid there at);
+        })))
+
+    -- ---- notes that it posts to another
+
+    by_post : (to : Pid) (set : NoteSet) → phase_of s pid ≡ phase.Idle
+        → ComesTo (Next.Post to set) phase.Idle (Note to set) (answer_to s (Note to set))
+    by_post to set at =
+        inr (inr (record {
+          to = to;
+          set = set;
+          does = refl;
+          over = ap is_idle (note_idle (answer_to s (Note to set)) to set);
+          hears = refl;
+          theirs = λ within. own_flags s (world_after s (Note to set)) to.0 (noted_with s to.0 set)
+              (there_too within) (note_flags s to.0 set (there_too within));
+          lost = λ far p. ap (λ (w : State). (flags_of w p).notes) (note_lost s to.0 set far);
+          others = λ p away. others_so p away (nat_lt to.0 (length s.phases)) refl;
+          levels = stays_low (Note to set);
         }))
+      where
+        there_too : to.0 < length s.phases → IsThere s to.0
+        there_too within = record { within = within; whole = there.whole }
+
+        others_so : (p : ℕ) → p ≢ to.0 → (here : Bool) → nat_lt to.0 (length s.phases) ≡ here
+            → (flags_of (world_after s (Note to set)) p).notes ≡ (flags_of s p).notes
+        others_so p away false is =
+            let far : length s.phases ≤ to.0 = grind (arith, nat_tests) in
+            ap (λ (w : State). (flags_of w p).notes) (note_lost s to.0 set far)
+        others_so p away true is =
+            let within : to.0 < length s.phases = grind (arith, nat_tests) in
+            others_flags s (world_after s (Note to set)) to.0 (noted_with s to.0 set)
+            (there_too within) (note_flags s to.0 set (there_too within)) p away
 
     -- ---- so each event of its own
 
@@ -473,6 +547,11 @@ module _ {At Request Reply Out Object : Type 0} (system : System At Request Repl
         (event_in pid p (core.Note (proc pid) set))
         (answer_to s (event_in pid p (core.Note (proc pid) set)))) (sym fits)
         (by_return set (at ∙ fits)))
+    each_event (Next.Post to set) stage event at fits is =
+        let same : event_in pid stage (core.Note to set) ≡ event = cc in
+        subst (λ (e : Event). ComesTo (Next.Post to set) stage e (answer_to s e)) same
+        (subst (λ (p : Phase). ComesTo (Next.Post to set) p (event_in pid p (core.Note to set))
+        (answer_to s (event_in pid p (core.Note to set)))) (sym fits) (by_post to set (at ∙ fits)))
     each_event Next.Drain stage event at fits is =
         let same : event_in pid stage core.Drain ≡ event = cc in
         subst (λ (e : Event). ComesTo Next.Drain stage e (answer_to s e)) same

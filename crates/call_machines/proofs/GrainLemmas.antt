@@ -3,11 +3,13 @@ use Rattle.std.proofs.Common.{◌≡◌, ◌≢◌, ◌⊎◌, inl, inr, ◌<◌
 use Rattle.std.proofs.Common.{suc, arith}
 use Rattle.std.proofs.Common.{List, [], ◌∷◌, refl, sym, ◌∙◌}
 use Rattle.std.proofs.Common.{ap, subst}
-use Rattle.std.specs.Prelude.{replicate, slice_index, ◌≤◌}
+use Rattle.std.specs.Prelude.{replicate, slice_index, slice_index_or, slice_set, ◌≤◌, nat_lt}
+use Rattle.std.proofs.lemmas.Bool.Decides.{nat_tests}
+use Rattle.sync_base.specs.declared.ids.Pid.{Pid}
 use Rattle.std.proofs.lemmas.Bool.Decides.{eqb_tells}
-use Rattle.std.proofs.lemmas.List.{get_or-set_same, get_or-set_other, length-set}
+use Rattle.std.proofs.lemmas.List.{get_or-set_same, get_or-set_other, length-set, set_past}
 use Rattle.sync_base.specs.declared.note.NoteSet.{NoteSet}
-use Rattle.sync_base.specs.NoteSet.{no_notes}
+use Rattle.sync_base.specs.NoteSet.{joined, no_notes}
 use Rattle.sleep_core.specs.declared.answer.Answer.{Answer}
 use Rattle.sleep_core.specs.declared.answer.Answer.TheVariants as answer
 use Rattle.sleep_core.specs.declared.event.Event.{Event}
@@ -22,10 +24,11 @@ use Rattle.sleep_core.proofs.CoreRuns.{get_or-replicate_same}
 use Rattle.schedules.specs.Position.{is_idle}
 use Rattle.schedules.proofs.MoveLemmas.{idle_is}
 use Rattle.call_machines.specs.Grain.{AreMoves, Coarse, Grain, IsCoarseOf, May, Move, RunsAreMoves}
-use Rattle.call_machines.specs.Grain.{at_of, coarse_of, event_grain, levels_by, moved, moves_of}
+use Rattle.call_machines.specs.Grain.{at_of, coarse_of, event_grain, grain_of, levels_by, moved}
+use Rattle.call_machines.specs.Grain.{moves_of, notes_after, receiver}
 use Rattle.call_machines.specs.Grain.{notes_by, notes_of, object_with, outcome_by, slept_grain}
 use Rattle.call_machines.specs.Grain.{with_grain}
-use Rattle.call_machines.specs.Grain.Grain.{Heard}
+use Rattle.call_machines.specs.Grain.Grain.{Heard, Posted}
 use Rattle.call_machines.specs.Machine.{Next}
 use Rattle.call_machines.specs.Runs.{Act, IsAnswered, IsNext, IsOfCalls, OwnState, Step, System}
 use Rattle.call_machines.specs.Runs.{goes_by, object_at, object_by, own_after, own_in, own_of}
@@ -136,15 +139,13 @@ module _ {At Request Reply Out Object : Type 0} (system : System At Request Repl
           → (own_after system.machine (own_in system pid past) act).at
           ≡ system.machine.goes_on (own_in system pid past).at (outcome_by grain)
           → (own_after system.machine (own_in system pid past) act).stage ≡ phase.Idle
-          → (flags_of (world_by system (world_at system past) act) pid).notes
-          ≡ notes_by (notes_at past pid) grain
-          → ((p : ℕ) → p ≢ pid
-          → (flags_of (world_by system (world_at system past) act) p).notes ≡ notes_at past p)
+          → ((p : ℕ) → notes_of system (moved system (coarse_of system moves) move) p
+          ≡ (flags_of (world_by system (world_at system past) act) p).notes)
           → ((levels : List ℕ) → LowIn levels (world_at system past)
           → LowIn (levels_by levels (system.machine.does (own_in system pid past).at) grain)
           (world_by system (world_at system past) act))
           → Fine (move ∷ moves) (step ∷ past)
-      one_move may object_is at_is idle own_notes other_notes levels =
+      one_move may object_is at_is idle notes_are levels =
           record {
             are = (
               fine.are,
@@ -176,21 +177,14 @@ module _ {At Request Reply Out Object : Type 0} (system : System At Request Repl
                   (λ same. differ (sym same))
                   ∙ (fine.coarse.states p
                   ∙ sym (ap (λ (o : OwnState system.machine). o.at) (others_now p differ))));
-              notes = each (λ p. notes_of system (moved system at move) p
-                  ≡ notes_at (step ∷ past) p)
-                  (get_or-set_same at.notes pid set no_notes (subst (λ (m : ℕ). pid < m)
-                  (sym fine.notes) below)
-                  ∙ (ap (λ (s : NoteSet). notes_by s grain) (fine.coarse.notes pid)
-                  ∙ sym own_notes))
-                  (λ p differ. get_or-set_other at.notes pid p set no_notes
-                  (λ same. differ (sym same))
-                  ∙ (fine.coarse.notes p ∙ sym (other_notes p (λ same. differ (sym same)))));
+              notes = notes_are;
               levels = subst (λ (x : At). LowIn (levels_by at.levels (system.machine.does x) grain)
                   (world_by system (world_at system past) act)) (sym (fine.coarse.states pid))
                   (levels at.levels fine.coarse.levels);
             };
             states = length-set at.states pid new ∙ fine.states;
-            notes = length-set at.notes pid set ∙ fine.notes;
+            notes = length-set at.notes (receiver pid grain)
+                (notes_by (notes_of system at (receiver pid grain)) grain) ∙ fine.notes;
             phases = each (λ p. Fits p (own_in system p (step ∷ past)))
                 (subst (Fits pid) (sym own_now)
                 (subst (InPhase (system.machine.does
@@ -206,8 +200,80 @@ module _ {At Request Reply Out Object : Type 0} (system : System At Request Repl
           new : At
           new = system.machine.goes_on (at_of system at pid) (outcome_by grain)
 
+      -- the notes after a move that changes those of its process alone
+      own_move_notes : receiver pid grain ≡ pid
+          → (flags_of (world_by system (world_at system past) act) pid).notes
+          ≡ notes_by (notes_at past pid) grain
+          → ((p : ℕ) → p ≢ pid
+          → (flags_of (world_by system (world_at system past) act) p).notes ≡ notes_at past p)
+          → (p : ℕ) → notes_of system (moved system (coarse_of system moves) move) p
+          ≡ (flags_of (world_by system (world_at system past) act) p).notes
+      own_move_notes own own_notes other_notes =
+          each (λ p. notes_of system (moved system at move) p
+          ≡ (flags_of (world_by system (world_at system past) act) p).notes)
+          (ap (λ (l : List NoteSet). slice_index_or l pid no_notes) list_is
+          ∙ (get_or-set_same at.notes pid set no_notes
+          (subst (λ (m : ℕ). pid < m) (sym fine.notes) below)
+          ∙ (ap (λ (s : NoteSet). notes_by s grain) (fine.coarse.notes pid) ∙ sym own_notes)))
+          (λ p differ. ap (λ (l : List NoteSet). slice_index_or l p no_notes) list_is
+          ∙ (get_or-set_other at.notes pid p set no_notes (λ same. differ (sym same))
+          ∙ (fine.coarse.notes p ∙ sym (other_notes p (λ same. differ (sym same))))))
+        where
+          at : Coarse system
+          at = coarse_of system moves
+
           set : NoteSet
           set = notes_by (notes_of system at pid) grain
+
+          list_is : notes_after system at pid grain ≡ slice_set at.notes pid set
+          list_is =
+              ap (λ (r : ℕ). slice_set at.notes r (notes_by (notes_of system at r) grain)) own
+
+    -- the notes after notes were posted to another
+    post_notes : (to : Pid) (set : NoteSet)
+        → (to.0 < procs system
+        → (flags_of (world_by system (world_at system past) act) to.0).notes
+        ≡ joined (notes_at past to.0) set)
+        → (procs system ≤ to.0 → (p : ℕ)
+        → (flags_of (world_by system (world_at system past) act) p).notes ≡ notes_at past p)
+        → ((p : ℕ) → p ≢ to.0
+        → (flags_of (world_by system (world_at system past) act) p).notes ≡ notes_at past p)
+        → (p : ℕ)
+        → notes_of system
+        (moved system (coarse_of system moves) (record { by = pid; grain = Posted to set })) p
+        ≡ (flags_of (world_by system (world_at system past) act) p).notes
+    post_notes to set theirs lost others p = by (eqb_tells p to.0)
+      where
+        at : Coarse system
+        at = coarse_of system moves
+
+        more : NoteSet
+        more = joined (notes_of system at to.0) set
+
+        mine : (here : Bool) → nat_lt to.0 (procs system) ≡ here
+            → slice_index_or (slice_set at.notes to.0 more) to.0 no_notes
+            ≡ (flags_of (world_by system (world_at system past) act) to.0).notes
+        mine true is =
+            let within : to.0 < procs system = grind (arith, nat_tests) in
+            get_or-set_same at.notes to.0 more no_notes
+            (subst (λ (m : ℕ). to.0 < m) (sym fine.notes) within)
+            ∙ (ap (λ (s : NoteSet). joined s set) (fine.coarse.notes to.0) ∙ sym (theirs within))
+        mine false is =
+            let far : procs system ≤ to.0 = grind (arith, nat_tests) in
+            ap (λ (l : List NoteSet). slice_index_or l to.0 no_notes)
+            (set_past at.notes to.0 more (subst (λ (m : ℕ). m ≤ to.0) (sym fine.notes) far))
+            ∙ (fine.coarse.notes to.0 ∙ sym (lost far to.0))
+
+        by : ((eqb p to.0 ≡ true) × (p ≡ to.0)) ⊎ ((eqb p to.0 ≡ false) × (p ≢ to.0))
+            → slice_index_or (slice_set at.notes to.0 more) p no_notes
+            ≡ (flags_of (world_by system (world_at system past) act) p).notes
+        by (inl same) =
+            subst (λ (q : ℕ). slice_index_or (slice_set at.notes to.0 more) q no_notes
+            ≡ (flags_of (world_by system (world_at system past) act) q).notes) (sym same.1)
+            (mine (nat_lt to.0 (procs system)) refl)
+        by (inr differ) =
+            get_or-set_other at.notes to.0 p more no_notes differ.1
+            ∙ (fine.coarse.notes p ∙ sym (others p differ.1))
 
   -- ---- a run
 
@@ -231,6 +297,17 @@ module _ {At Request Reply Out Object : Type 0} (system : System At Request Repl
   object_so o (event.Drain pid) said = refl
   object_so o other said = refl
 
+  -- nor does what a machine does by events
+  of_object : (n : Next Request Out) (o : Object) (made : Event) (said : Answer)
+      → o ≡ object_with system o (grain_of system n made said)
+  of_object (Next.Post to set) o made said = refl
+  of_object (Next.Ask request) o made said = object_so o made said
+  of_object (Next.Sleep rendez number) o made said = object_so o made said
+  of_object (Next.Wake rendez level) o made said = object_so o made said
+  of_object (Next.Return set) o made said = object_so o made said
+  of_object Next.Drain o made said = object_so o made said
+  of_object (Next.Over answer) o made said = object_so o made said
+
   fine_after : (pid : ℕ) → pid < procs system → (act : Act Request Reply)
       → (past : List (Step Request Reply)) → IsOfCalls system past
       → Fine (moves_of system past) past
@@ -243,7 +320,9 @@ module _ {At Request Reply Out Object : Type 0} (system : System At Request Repl
       (Heard request reply) (does, told_so) refl refl
       (subst (λ (n : Next Request Out). InPhase n (own_in system pid past).stage)
       does (fine.phases pid))
-      refl (λ p away. refl) (by (system.machine.does (own_in system pid past).at) does)
+      (own_move_notes pid below (Asked request reply) past (moves_of system past) fine
+      (Heard request reply) refl refl (λ p away. refl))
+      (by (system.machine.does (own_in system pid past).at) does)
     where
       by : (n : Next Request Out) → n ≡ Next.Ask request → (levels : List ℕ)
           → LowIn levels (world_at system past)
@@ -272,6 +351,9 @@ module _ {At Request Reply Out Object : Type 0} (system : System At Request Repl
       stage : Phase
       stage = phase_after said event own.stage
 
+      grain : Grain Request Reply
+      grain = grain_of system (system.machine.does own.at) event said
+
       step : Step Request Reply
       step = record { by = pid; act = Made event said }
 
@@ -279,8 +361,8 @@ module _ {At Request Reply Out Object : Type 0} (system : System At Request Repl
           (system.machine.does own.at) own.stage event said
           → Fine (moves_of system (step ∷ past)) (step ∷ past)
       by (inl none) =
-          subst (λ (b : Bool). Fine (with_grain system pid b (event_grain system event said)
-          (moves_of system past)) (step ∷ past)) (sym none.busy)
+          subst (λ (b : Bool). Fine (with_grain system pid b grain (moves_of system past))
+          (step ∷ past)) (sym none.busy)
           (no_move pid below (Made event said) past (moves_of system past) fine refl at_is
           (subst (λ (x : At). InPhase (system.machine.does x) stage) (sym at_is)
           none.fits) none.notes
@@ -288,14 +370,36 @@ module _ {At Request Reply Out Object : Type 0} (system : System At Request Repl
         where
           at_is : goes_by system.machine own.at (is_idle stage) event said ≡ own.at
           at_is = ap (λ (b : Bool). goes_by system.machine own.at b event said) none.busy
-      by (inr one) =
-          subst (λ (b : Bool). Fine (with_grain system pid b (event_grain system event said)
-          (moves_of system past)) (step ∷ past)) (sym one.over)
-          (one_move pid below (Made event said) past (moves_of system past) fine
-          (event_grain system event said) one.may (object_so (object_at system past) event said)
+      by (inr (inl one)) =
+          subst (λ (b : Bool). Fine (with_grain system pid b grain (moves_of system past))
+          (step ∷ past)) (sym one.over)
+          (one_move pid below (Made event said) past (moves_of system past) fine grain one.may
+          (of_object (system.machine.does own.at) (object_at system past) event said)
           (ap (λ (b : Bool). goes_by system.machine own.at b event said) one.over
           ∙ sym (ap (system.machine.goes_on own.at) one.hears))
-          (idle_is stage one.over) one.ours one.others one.levels)
+          (idle_is stage one.over)
+          (own_move_notes pid below (Made event said) past (moves_of system past) fine grain
+          one.own one.ours one.others) one.levels)
+      by (inr (inr post)) =
+          subst (λ (g : Grain Request Reply). Fine (with_grain system pid (is_idle stage) g
+          (moves_of system past)) (step ∷ past)) (sym grain_is)
+          (subst (λ (b : Bool). Fine (with_grain system pid b (Posted post.to post.set)
+          (moves_of system past)) (step ∷ past)) (sym post.over)
+          (one_move pid below (Made event said) past (moves_of system past) fine
+          (Posted post.to post.set) post.does refl
+          (ap (λ (b : Bool). goes_by system.machine own.at b event said) post.over
+          ∙ sym (ap (system.machine.goes_on own.at) post.hears))
+          (idle_is stage post.over)
+          (post_notes pid below (Made event said) past (moves_of system past) fine post.to
+          post.set (λ within. post.theirs (subst (λ (m : ℕ). post.to.0 < m) (sym many) within))
+          (λ far. post.lost (subst (λ (m : ℕ). m ≤ post.to.0) (sym many) far)) post.others)
+          post.levels))
+        where
+          grain_is : grain ≡ Posted post.to post.set
+          grain_is = ap (λ (n : Next Request Out). grain_of system n event said) post.does
+
+          many : length s.phases ≡ procs system
+          many = sound.procs_stay
 
   -- by induction over the run, step by step
   pub fine_run : (run : List (Step Request Reply)) → IsOfCalls system run

@@ -1,6 +1,6 @@
 -- What an event of a process does to notes.
 use Rattle.std.proofs.Common.{◌≡◌, ◌≢◌, ◌⊎◌, inl, inr, ◌<◌, ◌==◌, ℕ, Bool, true, false, length}
-use Rattle.std.proofs.Common.{if◌then◌else◌, Option, Some, None, refl, sym, ◌∙◌, ap, arith}
+use Rattle.std.proofs.Common.{nat_lt, if◌then◌else◌, Option, Some, None, refl, sym, ◌∙◌, ap, arith}
 use Rattle.std.specs.Prelude.{⊤, List, max, slice_set, slice_index, slice_index_or, ◌≤◌}
 use Rattle.std.proofs.lemmas.Bool.Decides.{nat_tests}
 use Rattle.std.proofs.lemmas.List.{get_or-set_same, get_or-set_other}
@@ -17,7 +17,7 @@ use Rattle.sleep_core.specs.declared.phase.ProcFlags.{ProcFlags}
 use Rattle.sleep_core.specs.State.{State, flags_of, no_flags, phase_of, posted_as, returned_of}
 use Rattle.sync_base.specs.declared.ids.Pid.{Pid}
 use Rattle.sync_base.specs.declared.ids.RendezId.{RendezId}
-use Rattle.sleep_core.specs.Step.{answer_to, changed_by, is_refusal, with_phase, with_returned}
+use Rattle.sleep_core.specs.Step.{answer_in, answer_to, changed_by, is_refusal, with_phase, with_returned}
 use Rattle.sleep_core.specs.Step.{with_word, word_at, world_after, world_told}
 use Rattle.sleep_core.specs.Table.{Cell, Word, Wakeup, cell_of, ending_of, has_notes, number_in}
 use Rattle.sleep_core.specs.Table.{phase_after}
@@ -151,20 +151,34 @@ abbrev pub noted_with : State → ℕ → NoteSet → ProcFlags
 noted_with s pid set =
     record { wake = (flags_of s pid).wake; notes = joined (flags_of s pid).notes set }
 
--- a note joins the notes of its process
+-- a note joins the notes of its process, whatever that does
+pub note_told : (s : State) (pid : ℕ) (set : NoteSet) → IsThere s pid
+    → answer_to s (Note (proc pid) set) ≡ answer.Noted
+note_told s pid set there =
+    let size = there.whole.flags in
+    let low = there.within in
+    told_there s pid (Note (proc pid) set) (phase_of s pid) refl there.within refl
+    (grind (arith, nat_tests))
+
 pub note_flags : (s : State) (pid : ℕ) (set : NoteSet) → IsThere s pid
-    → phase_of s pid ≡ phase.Idle
     → (world_after s (Note (proc pid) set)).flags ≡ slice_set s.flags pid (noted_with s pid set)
-note_flags s pid set there at =
-    ap (λ (a : Answer). (world_told s (phase_of s pid) (Note (proc pid) set) a).flags) told
-    ∙ ap (λ (p : Phase). (world_told s p (Note (proc pid) set) answer.Noted).flags) at
+note_flags s pid set there =
+    ap (λ (a : Answer). (world_told s (phase_of s pid) (Note (proc pid) set) a).flags)
+    (note_told s pid set there)
+
+-- a process that is not there gets none
+pub note_lost : (s : State) (pid : ℕ) (set : NoteSet) → length s.phases ≤ pid
+    → world_after s (Note (proc pid) set) ≡ s
+note_lost s pid set far =
+    ap (λ (a : Answer). world_told s (phase_of s pid) (Note (proc pid) set) a) told
   where
-    told : answer_to s (Note (proc pid) set) ≡ answer.Noted
+    away : nat_lt pid (length s.phases) ≡ false
+    away = grind (arith, nat_tests)
+
+    told : answer_to s (Note (proc pid) set) ≡ answer.NoProc
     told =
-        let size = there.whole.flags in
-        let low = there.within in
-        told_there s pid (Note (proc pid) set) phase.Idle refl there.within at
-        (grind (arith, nat_tests))
+        ap (λ (b : Bool). if b then answer_in s (phase_of s pid) (Note (proc pid) set)
+        else answer.NoProc) away
 
 -- a drain is answered by the notes that are pending, and they are no longer
 pub drain_told : (s : State) (pid : ℕ) → IsThere s pid → phase_of s pid ≡ phase.Idle

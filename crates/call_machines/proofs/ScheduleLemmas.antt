@@ -85,6 +85,9 @@ own_event pid stage (Next.Wake r level) event is =
 own_event pid stage (Next.Return set) event is =
     let same : event_in pid stage (core.Note (record { 0 = pid }) set) ≡ event = cc in
     subst (IsMadeBy pid) same (event_made pid stage (core.Note (record { 0 = pid }) set))
+own_event pid stage (Next.Post to set) event is =
+    let same : event_in pid stage (core.Note to set) ≡ event = cc in
+    subst (IsMadeBy pid) same (event_made pid stage (core.Note to set))
 own_event pid stage Next.Drain event is =
     let same : event_in pid stage core.Drain ≡ event = cc in
     subst (IsMadeBy pid) same (event_made pid stage core.Drain)

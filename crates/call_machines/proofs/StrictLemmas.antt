@@ -12,19 +12,23 @@ use Rattle.sleep_core.specs.Table.{has_notes}
 use Rattle.call_machines.specs.Ends.{HasEnded}
 use Rattle.call_machines.specs.Grain.{AreMoves, Coarse, Grain, May, Move, at_of, coarse_of}
 use Rattle.call_machines.specs.Grain.{moved, notes_by, notes_of, object_with, outcome_by}
-use Rattle.call_machines.specs.Grain.Grain.{Drained, Heard, Noted, Refused, Returned, Went, Woken}
+use Rattle.call_machines.specs.Grain.Grain.{Drained, Heard, Noted, Posted, Refused, Returned, Went}
+use Rattle.call_machines.specs.Grain.Grain.{Woken}
 use Rattle.call_machines.specs.GrainEnds.{AreUnrefused, HaveEndedAt}
 use Rattle.call_machines.specs.GrainEnds.{IsCoarseStuck, IsObjectStuck, IsUnrefused, WaitsBy}
 use Rattle.call_machines.specs.GrainEnds.{WaitsOn}
 use Rattle.call_machines.specs.Machine.{Next, Outcome}
-use Rattle.call_machines.specs.Grain.{event_grain, moves_of, slept_grain, with_grain, with_move}
+use Rattle.call_machines.specs.Grain.{event_grain, grain_of, moves_of, receiver, slept_grain}
+use Rattle.call_machines.specs.Grain.{with_grain, with_move}
 use Rattle.call_machines.specs.Replies.{AreAskedSo, AreHeardSo, IsAskedSo, IsHeardSo}
 use Rattle.call_machines.specs.Replies.{NeverStuckSo, SuchEndsHold}
 use Rattle.call_machines.specs.Runs.{Act, OwnState, Step, System, own_in, procs}
 use Rattle.call_machines.specs.Runs.Act.{Asked, Made}
-use Rattle.call_machines.specs.StrictRuns.{AreOneWait, AreStrict, AsksAgain, AsksInVain}
+use Rattle.call_machines.specs.StrictRuns.{AreLooseMoves, AreOneWait, AreStrict}
+use Rattle.call_machines.specs.StrictRuns.{AsksAgain, AsksInVain, MayLoosely}
 use Rattle.call_machines.specs.StrictRuns.{EndsInTime, StrictEndsHold}
 use Rattle.call_machines.specs.StrictRuns.{WaitsAskAgain, woken}
+use Rattle.call_machines.proofs.CoarseLemmas.{loosely}
 use Rattle.call_machines.proofs.GrainEndLemmas.{is_stuck}
 use Rattle.call_machines.proofs.GrainLemmas.{fine_run}
 use Rattle.call_machines.proofs.UnrefusedLemmas.{no_sleep_is_refused}
@@ -34,7 +38,10 @@ use Rattle.sleep_core.specs.declared.event.Event.{Event}
 use Rattle.sleep_core.specs.declared.event.Event.TheVariants as event
 use Rattle.sleep_core.specs.Table.{phase_after}
 use Rattle.schedules.specs.Position.{is_idle}
-use Rattle.std.specs.Prelude.{⊤}
+use Rattle.std.specs.Prelude.{⊤, ◌≤◌, nat_lt, slice_index_or, slice_set}
+use Rattle.std.proofs.Common.{arith}
+use Rattle.std.proofs.lemmas.Bool.Decides.{nat_tests}
+use Rattle.std.proofs.lemmas.List.{set_past}
 
 module _ {At Request Reply Out Object : Type 0} (system : System At Request Reply Out Object)
     (Goes : Object → At → Type 0) (Comes : Request → Reply → Type 0)
@@ -42,18 +49,17 @@ module _ {At Request Reply Out Object : Type 0} (system : System At Request Repl
   -- ---- the two runs
 
   -- the strict run still sleeps, where the other was woken without notes
-  record IsEarly (notes : NoteSet) (at strict : At) : Type 0 where
+  record IsEarly (at strict : At) : Type 0 where
     rendez : RendezId
     number : ℕ
     sleeps : system.machine.does strict ≡ Next.Sleep rendez number
     is : at ≡ woken system strict
-    quiet : has_notes notes ≡ false
 
   -- a process is in the same state in both runs, or in two waits of one call, or was woken early
-  data Fits (notes : NoteSet) (at strict : At) : Type 0 where
-    IsSame : at ≡ strict → Fits notes at strict
-    IsOneWait : AreOneWait system Goes at strict → Fits notes at strict
-    WasEarly : IsEarly notes at strict → Fits notes at strict
+  data Fits (at strict : At) : Type 0 where
+    IsSame : at ≡ strict → Fits at strict
+    IsOneWait : AreOneWait system Goes at strict → Fits at strict
+    WasEarly : IsEarly at strict → Fits at strict
 
   record Sized (at : Coarse system) : Type 0 where
     states : length at.states ≡ procs system
@@ -66,22 +72,22 @@ module _ {At Request Reply Out Object : Type 0} (system : System At Request Repl
         states = length-set at.states move.by
             (system.machine.goes_on (at_of system at move.by) (outcome_by move.grain))
             ∙ sized.states;
-        notes = length-set at.notes move.by (notes_by (notes_of system at move.by) move.grain)
+        notes = length-set at.notes (receiver move.by move.grain)
+            (notes_by (notes_of system at (receiver move.by move.grain)) move.grain)
             ∙ sized.notes;
       }
 
   -- a strict run that comes to the same as these moves
   record Strictly (at : Coarse system) : Type 0 where
     moves : List (Move Request Reply)
-    all : AreMoves system moves
+    all : AreLooseMoves system moves
     unrefused : AreUnrefused system moves
     strict : AreStrict system Goes moves
     heard : AreHeardSo Comes moves
     sized : Sized (coarse_of system moves)
     object : (coarse_of system moves).object ≡ at.object
     notes : (pid : ℕ) → notes_of system (coarse_of system moves) pid ≡ notes_of system at pid
-    states : (pid : ℕ) → Fits (notes_of system at pid) (at_of system at pid)
-        (at_of system (coarse_of system moves) pid)
+    states : (pid : ℕ) → Fits (at_of system at pid) (at_of system (coarse_of system moves) pid)
 
   -- ---- one move more
 
@@ -113,26 +119,73 @@ module _ {At Request Reply Out Object : Type 0} (system : System At Request Repl
         get_or-set_other c.states pid other
         (system.machine.goes_on (at_of system c pid) (outcome_by grain)) system.none differs
 
-    notes_now : (c : Coarse system) (grain : Grain Request Reply) → Sized c
-        → notes_of system (after c grain) pid ≡ notes_by (notes_of system c pid) grain
-    notes_now c grain size =
-        get_or-set_same c.notes pid (notes_by (notes_of system c pid) grain) no_notes
-        (subst (λ (n : ℕ). pid < n) (sym size.notes) low)
+    -- a change of one place changes two lists alike that were alike
+    alike : (one other : List NoteSet) (place : ℕ) (change : NoteSet → NoteSet)
+        → length one ≡ length other
+        → ((p : ℕ) → slice_index_or one p no_notes ≡ slice_index_or other p no_notes)
+        → (p : ℕ)
+        → slice_index_or (slice_set one place (change (slice_index_or one place no_notes))) p
+        no_notes
+        ≡ slice_index_or (slice_set other place (change (slice_index_or other place no_notes))) p
+        no_notes
+    alike one other place change long same p = by (eqb_tells p place)
+      where
+        one_now : NoteSet
+        one_now = change (slice_index_or one place no_notes)
 
-    notes_other : (c : Coarse system) (grain : Grain Request Reply) (other : ℕ) → other ≢ pid
-        → notes_of system (after c grain) other ≡ notes_of system c other
-    notes_other c grain other differs =
-        get_or-set_other c.notes pid other (notes_by (notes_of system c pid) grain) no_notes
-        differs
+        other_now : NoteSet
+        other_now = change (slice_index_or other place no_notes)
+
+        here : (within : Bool) → nat_lt place (length one) ≡ within
+            → slice_index_or (slice_set one place one_now) place no_notes
+            ≡ slice_index_or (slice_set other place other_now) place no_notes
+        here true is =
+            let low : place < length one = grind (arith, nat_tests) in
+            get_or-set_same one place one_now no_notes low
+            ∙ (ap change (same place)
+            ∙ sym (get_or-set_same other place other_now no_notes
+            (subst (λ (n : ℕ). place < n) long low)))
+        here false is =
+            let far : length one ≤ place = grind (arith, nat_tests) in
+            ap (λ (l : List NoteSet). slice_index_or l place no_notes)
+            (set_past one place one_now far)
+            ∙ (same place
+            ∙ sym (ap (λ (l : List NoteSet). slice_index_or l place no_notes)
+            (set_past other place other_now (subst (λ (n : ℕ). n ≤ place) long far))))
+
+        by : ((eqb p place ≡ true) × (p ≡ place)) ⊎ ((eqb p place ≡ false) × (p ≢ place))
+            → slice_index_or (slice_set one place one_now) p no_notes
+            ≡ slice_index_or (slice_set other place other_now) p no_notes
+        by (inl is) =
+            subst (λ (q : ℕ). slice_index_or (slice_set one place one_now) q no_notes
+            ≡ slice_index_or (slice_set other place other_now) q no_notes) (sym is.1)
+            (here (nat_lt place (length one)) refl)
+        by (inr differs) =
+            get_or-set_other one place p one_now no_notes differs.1
+            ∙ (same p ∙ sym (get_or-set_other other place p other_now no_notes differs.1))
+
+    -- a move that changes no notes
+    notes_stay : (c : Coarse system) → Sized c → (p : ℕ)
+        → slice_index_or (slice_set c.notes pid (notes_of system c pid)) p no_notes
+        ≡ notes_of system c p
+    notes_stay c size p = by (eqb_tells p pid)
+      where
+        by : ((eqb p pid ≡ true) × (p ≡ pid)) ⊎ ((eqb p pid ≡ false) × (p ≢ pid))
+            → slice_index_or (slice_set c.notes pid (notes_of system c pid)) p no_notes
+            ≡ notes_of system c p
+        by (inl is) =
+            subst (λ (q : ℕ). slice_index_or (slice_set c.notes pid (notes_of system c pid)) q
+            no_notes ≡ notes_of system c q) (sym is.1)
+            (get_or-set_same c.notes pid (notes_of system c pid) no_notes
+            (subst (λ (n : ℕ). pid < n) (sym size.notes) low))
+        by (inr differs) =
+            get_or-set_other c.notes pid p (notes_of system c pid) no_notes differs.1
 
     -- two states of a process, by what they are equal to
-    fits_as : (notes : NoteSet) (a b : At) (other_notes : NoteSet) (other_a other_b : At)
-        → other_notes ≡ notes → other_a ≡ a → other_b ≡ b → Fits notes a b
-        → Fits other_notes other_a other_b
-    fits_as notes a b other_notes other_a other_b notes_is a_is b_is fits =
-        subst (λ (n : NoteSet). Fits n other_a other_b) (sym notes_is)
-        (subst (λ (s : At). Fits notes s other_b) (sym a_is)
-        (subst (Fits notes a) (sym b_is) fits))
+    fits_as : (a b other_a other_b : At) → other_a ≡ a → other_b ≡ b → Fits a b
+        → Fits other_a other_b
+    fits_as a b other_a other_b a_is b_is fits =
+        subst (λ (s : At). Fits s other_b) (sym a_is) (subst (Fits a) (sym b_is) fits)
 
     module _ (so : Strictly at) where
       abbrev now : Coarse system
@@ -140,13 +193,12 @@ module _ {At Request Reply Out Object : Type 0} (system : System At Request Repl
 
       -- a move that the strict run makes too
       both : (grain : Grain Request Reply)
-          → May system now.object (notes_of system now pid)
+          → MayLoosely system now.object (notes_of system now pid)
           (system.machine.does (at_of system now pid)) grain
           → IsUnrefused system grain
           → EndsInTime system Goes now.object (at_of system now pid) grain
           → IsHeardSo Comes grain
-          → Fits (notes_by (notes_of system at pid) grain)
-          (system.machine.goes_on (at_of system at pid) (outcome_by grain))
+          → Fits (system.machine.goes_on (at_of system at pid) (outcome_by grain))
           (system.machine.goes_on (at_of system now pid) (outcome_by grain))
           → Strictly (after at grain)
       both grain may unrefused strict heard fits =
@@ -158,31 +210,23 @@ module _ {At Request Reply Out Object : Type 0} (system : System At Request Repl
             heard = (so.heard, heard);
             sized = sized_more now (record { by = pid; grain = grain }) so.sized;
             object = ap (λ (o : Object). object_with system o grain) so.object;
-            notes = each (λ p. notes_of system (after now grain) p
-                ≡ notes_of system (after at grain) p)
-                (notes_now now grain so.sized
-                ∙ (ap (λ (n : NoteSet). notes_by n grain) (so.notes pid)
-                ∙ sym (notes_now at grain sized)))
-                (λ other differs. notes_other now grain other differs
-                ∙ (so.notes other ∙ sym (notes_other at grain other differs)));
-            states = each (λ p. Fits (notes_of system (after at grain) p)
-                (at_of system (after at grain) p) (at_of system (after now grain) p))
-                (fits_as _ _ _ _ _ _ (notes_now at grain sized) (state_now at grain sized)
-                (state_now now grain so.sized) fits)
-                (λ other differs. fits_as _ _ _ _ _ _ (notes_other at grain other differs)
-                (state_other at grain other differs) (state_other now grain other differs)
-                (so.states other));
+            notes = alike now.notes at.notes (receiver pid grain) (λ n. notes_by n grain)
+                (so.sized.notes ∙ sym sized.notes) so.notes;
+            states = each (λ p. Fits (at_of system (after at grain) p)
+                (at_of system (after now grain) p))
+                (fits_as _ _ _ _ (state_now at grain sized) (state_now now grain so.sized) fits)
+                (λ other differs. fits_as _ _ _ _ (state_other at grain other differs)
+                (state_other now grain other differs) (so.states other));
           }
 
       -- a move that it leaves out
       skip : (grain : Grain Request Reply)
           → object_with system at.object grain ≡ at.object
-          → notes_by (notes_of system at pid) grain ≡ notes_of system at pid
-          → Fits (notes_of system at pid)
-          (system.machine.goes_on (at_of system at pid) (outcome_by grain))
+          → ((p : ℕ) → notes_of system (after at grain) p ≡ notes_of system at p)
+          → Fits (system.machine.goes_on (at_of system at pid) (outcome_by grain))
           (at_of system now pid)
           → Strictly (after at grain)
-      skip grain object_is notes_is fits =
+      skip grain object_is notes_are fits =
           record {
             moves = so.moves;
             all = so.all;
@@ -191,15 +235,11 @@ module _ {At Request Reply Out Object : Type 0} (system : System At Request Repl
             heard = so.heard;
             sized = so.sized;
             object = so.object ∙ sym object_is;
-            notes = each (λ p. notes_of system now p ≡ notes_of system (after at grain) p)
-                (so.notes pid ∙ sym (notes_now at grain sized ∙ notes_is))
-                (λ other differs. so.notes other ∙ sym (notes_other at grain other differs));
-            states = each (λ p. Fits (notes_of system (after at grain) p)
-                (at_of system (after at grain) p) (at_of system now p))
-                (fits_as _ _ _ _ _ _ (notes_now at grain sized ∙ notes_is)
-                (state_now at grain sized) refl fits)
-                (λ other differs. fits_as _ _ _ _ _ _ (notes_other at grain other differs)
-                (state_other at grain other differs) refl (so.states other));
+            notes = λ p. so.notes p ∙ sym (notes_are p);
+            states = each (λ p. Fits (at_of system (after at grain) p) (at_of system now p))
+                (fits_as _ _ _ _ (state_now at grain sized) refl fits)
+                (λ other differs. fits_as _ _ _ _ (state_other at grain other differs) refl
+                (so.states other));
           }
 
       -- what may come of it at the strict run
@@ -222,8 +262,10 @@ module _ {At Request Reply Out Object : Type 0} (system : System At Request Repl
           → IsHeardSo Comes grain → Strictly (after at grain)
       same_both grain same may unrefused strict heard =
           both grain
-          (may_now _ grain (subst (λ (a : At). May system at.object (notes_of system at pid)
-          (system.machine.does a) grain) same may))
+          (loosely system now.object (notes_of system now pid)
+          (system.machine.does (at_of system now pid)) grain
+          (may_now (system.machine.does (at_of system now pid)) grain (subst (λ (a : At). May system at.object (notes_of system at pid)
+          (system.machine.does a) grain) same may)))
           unrefused strict heard
           (IsSame (ap (λ (a : At). system.machine.goes_on a (outcome_by grain)) same))
 
@@ -231,12 +273,11 @@ module _ {At Request Reply Out Object : Type 0} (system : System At Request Repl
           → May system at.object (notes_of system at pid) (system.machine.does old) grain
           → IsUnrefused system grain → IsHeardSo Comes grain → Strictly (after at grain)
       same_step Woken same may unrefused heard =
-          skip Woken refl refl (WasEarly (record {
+          skip Woken refl (notes_stay at sized) (WasEarly (record {
             rendez = may.0;
             number = may.1;
             sleeps = ap system.machine.does (sym same) ∙ may.2;
             is = ap (woken system) same;
-            quiet = may.3;
           }))
       same_step (Heard request reply) same may unrefused heard =
           same_both _ same may unrefused tt heard
@@ -247,6 +288,8 @@ module _ {At Request Reply Out Object : Type 0} (system : System At Request Repl
           same_both _ same may unrefused tt tt
       same_step (Returned set) same may unrefused heard =
           same_both _ same may unrefused tt tt
+      same_step (Posted to set) same may unrefused heard =
+          same_both _ same may unrefused tt tt
       same_step (Drained set) same may unrefused heard =
           same_both _ same may unrefused tt tt
 
@@ -256,27 +299,28 @@ module _ {At Request Reply Out Object : Type 0} (system : System At Request Repl
           → May system at.object (notes_of system at pid) (system.machine.does old) grain
           → IsUnrefused system grain → Strictly (after at grain)
       asleep_step Woken one may unrefused =
-          skip Woken refl refl (WasEarly (record {
+          skip Woken refl (notes_stay at sized) (WasEarly (record {
             rendez = one.rendez;
             number = one.other_number;
             sleeps = one.other_sleeps;
             is = one.alike (Ok tt);
-            quiet = may.3;
           }))
       asleep_step (Noted set) one may unrefused =
           both (Noted set)
-          (may_now _ (Noted set) (one.rendez, one.other_number, one.other_sleeps, may.3, may.4))
+          (may_now (system.machine.does (at_of system now pid)) (Noted set) (one.rendez, one.other_number, one.other_sleeps, may.3, may.4))
           tt tt tt (IsSame (one.alike (Err (fault.Interrupted set))))
       asleep_step (Refused why) one may unrefused = absurd unrefused
       asleep_step (Heard request reply) one may unrefused =
           absurd (let both = sym one.sleeps ∙ may.0 in cc)
       asleep_step Went one may unrefused = absurd (let both = sym one.sleeps ∙ may.2 in cc)
       asleep_step (Returned set) one may unrefused = absurd (let both = sym one.sleeps ∙ may in cc)
+      asleep_step (Posted to set) one may unrefused =
+          absurd (let both = sym one.sleeps ∙ may in cc)
       asleep_step (Drained set) one may unrefused =
           absurd (let both = sym one.sleeps ∙ may.0 in cc)
 
       -- the strict run's wait ends too, where the object lets the process go on
-      catch_up : IsEarly (notes_of system at pid) old (at_of system now pid)
+      catch_up : IsEarly old (at_of system now pid)
           → Goes now.object (at_of system now pid)
           → (caught : Strictly at) × (old ≡ at_of system (coarse_of system caught.moves) pid)
       catch_up early goes = (
@@ -286,12 +330,7 @@ module _ {At Request Reply Out Object : Type 0} (system : System At Request Repl
             so.all,
             (
               low,
-              (
-                early.rendez,
-                early.number,
-                early.sleeps,
-                ap has_notes (so.notes pid) ∙ early.quiet,
-              ),
+              (early.rendez, early.number, early.sleeps),
             ),
           );
           unrefused = (so.unrefused, tt);
@@ -299,12 +338,10 @@ module _ {At Request Reply Out Object : Type 0} (system : System At Request Repl
           heard = (so.heard, tt);
           sized = sized_more now (record { by = pid; grain = Woken }) so.sized;
           object = so.object;
-          notes = each (λ p. notes_of system (after now Woken) p ≡ notes_of system at p)
-              (notes_now now Woken so.sized ∙ so.notes pid)
-              (λ other differs. notes_other now Woken other differs ∙ so.notes other);
-          states = each (λ p. Fits (notes_of system at p) (at_of system at p)
-              (at_of system (after now Woken) p)) (IsSame caught)
-              (λ other differs. fits_as _ _ _ _ _ _ refl refl (state_other now Woken other differs)
+          notes = λ p. notes_stay now so.sized p ∙ so.notes p;
+          states = each (λ p. Fits (at_of system at p) (at_of system (after now Woken) p))
+              (IsSame caught)
+              (λ other differs. fits_as _ _ _ _ refl (state_other now Woken other differs)
               (so.states other));
         },
         caught,
@@ -315,7 +352,7 @@ module _ {At Request Reply Out Object : Type 0} (system : System At Request Repl
 
       -- where it asks in vain the strict run sleeps on
       in_vain : (request : Request) (grain : Grain Request Reply)
-          → IsEarly (notes_of system at pid) old (at_of system now pid)
+          → IsEarly old (at_of system now pid)
           → system.machine.does (woken system (at_of system now pid)) ≡ Next.Ask request
           → AsksInVain system Goes now.object (at_of system now pid) request
           → May system at.object (notes_of system at pid) (system.machine.does old) grain
@@ -326,7 +363,7 @@ module _ {At Request Reply Out Object : Type 0} (system : System At Request Repl
           skip (Heard other reply)
           (subst (λ (o : Object). system.after o other ≡ o) so.object
           (subst (λ (r : Request). system.after now.object r ≡ now.object) same vain.stays))
-          refl
+          (notes_stay at sized)
           (IsOneWait (subst (λ (s : At). AreOneWait system Goes s (at_of system now pid))
           (ap (λ (r : Reply). system.machine.goes_on (woken system (at_of system now pid))
           (Outcome.Replied r))
@@ -344,6 +381,8 @@ module _ {At Request Reply Out Object : Type 0} (system : System At Request Repl
           absurd (let is = sym asks ∙ (ap system.machine.does (sym early.is) ∙ may.2) in cc)
       in_vain request (Returned set) early asks vain may =
           absurd (let is = sym asks ∙ (ap system.machine.does (sym early.is) ∙ may) in cc)
+      in_vain request (Posted to set) early asks vain may =
+          absurd (let is = sym asks ∙ (ap system.machine.does (sym early.is) ∙ may) in cc)
       in_vain request (Drained set) early asks vain may =
           absurd (let is = sym asks ∙ (ap system.machine.does (sym early.is) ∙ may.0) in cc)
 
@@ -357,7 +396,7 @@ module _ {At Request Reply Out Object : Type 0} (system : System At Request Repl
         strict_at : At
         strict_at = at_of system (coarse_of system so.moves) pid
 
-        of : (early : IsEarly (notes_of system at pid) (at_of system at pid) strict_at)
+        of : (early : IsEarly (at_of system at pid) strict_at)
             → AsksAgain system Goes (coarse_of system so.moves).object strict_at
             → Strictly (after at grain)
         of early asks = comes asks.comes
@@ -370,7 +409,7 @@ module _ {At Request Reply Out Object : Type 0} (system : System At Request Repl
                 same_step caught.0 grain caught.1 may unrefused heard
             comes (inr vain) = in_vain so asks.request grain early asks.asks vain may
 
-        by : Fits (notes_of system at pid) (at_of system at pid) strict_at
+        by : Fits (at_of system at pid) strict_at
             → Strictly (after at grain)
         by (IsSame same) = same_step so grain same may unrefused heard
         by (IsOneWait one) = asleep_step so grain one may unrefused
@@ -414,8 +453,7 @@ module _ {At Request Reply Out Object : Type 0} (system : System At Request Repl
     last = coarse_of system so.moves
 
     -- one that was woken early is not over, and does not sleep
-    asks_on : (early : IsEarly (notes_of system at pid) (at_of system at pid)
-        (at_of system last pid))
+    asks_on : (early : IsEarly (at_of system at pid) (at_of system last pid))
         → (request : Request) × (system.machine.does (at_of system at pid) ≡ Next.Ask request)
     asks_on early =
         let asks = again so.moves so.all pid early.rendez early.number low early.sleeps in
@@ -444,7 +482,7 @@ module _ {At Request Reply Out Object : Type 0} (system : System At Request Repl
                   Goes o (at_of system last pid)) so.object goes));
             }
 
-        by : Fits (notes_of system at pid) (at_of system at pid) (at_of system last pid)
+        by : Fits (at_of system at pid) (at_of system last pid)
             → HasEnded (system.machine.does (at_of system at pid)) ⊎ WaitsBy system Goes at pid
             → HasEnded (system.machine.does (at_of system last pid)) ⊎ WaitsBy system Goes last pid
         by (IsSame same) (inl ends) =
@@ -463,7 +501,7 @@ module _ {At Request Reply Out Object : Type 0} (system : System At Request Repl
         → HasEnded (system.machine.does (at_of system at pid))
     over_back ends = by (so.states pid)
       where
-        by : Fits (notes_of system at pid) (at_of system at pid) (at_of system last pid)
+        by : Fits (at_of system at pid) (at_of system last pid)
             → HasEnded (system.machine.does (at_of system at pid))
         by (IsSame same) = subst (λ (s : At). HasEnded (system.machine.does s)) (sym same) ends
         by (IsOneWait one) =
@@ -502,6 +540,16 @@ module _ {At Request Reply Out Object : Type 0} (system : System At Request Repl
   event_heard (event.Drain pid) said = tt
   event_heard other said = tt
 
+  does_heard : (n : Next Request Out) (made : Event) (said : Answer)
+      → IsHeardSo Comes (grain_of system n made said)
+  does_heard (Next.Post to set) made said = tt
+  does_heard (Next.Ask request) made said = event_heard made said
+  does_heard (Next.Sleep rendez number) made said = event_heard made said
+  does_heard (Next.Wake rendez level) made said = event_heard made said
+  does_heard (Next.Return set) made said = event_heard made said
+  does_heard Next.Drain made said = event_heard made said
+  does_heard (Next.Over out) made said = event_heard made said
+
   grain_heard : (pid : ℕ) (over : Bool) (grain : Grain Request Reply)
       (moves : List (Move Request Reply)) → IsHeardSo Comes grain → AreHeardSo Comes moves
       → AreHeardSo Comes (with_grain system pid over grain moves)
@@ -513,8 +561,9 @@ module _ {At Request Reply Out Object : Type 0} (system : System At Request Repl
       → AreHeardSo Comes (with_move system pid own act moves)
   act_heard pid own (Asked request reply) moves so before = (before, so)
   act_heard pid own (Made made said) moves so before =
-      grain_heard pid (is_idle (phase_after said made own.stage)) (event_grain system made said)
-      moves (event_heard made said) before
+      grain_heard pid (is_idle (phase_after said made own.stage))
+      (grain_of system (system.machine.does own.at) made said) moves
+      (does_heard (system.machine.does own.at) made said) before
 
   heard_in : (run : List (Step Request Reply)) → AreAskedSo Comes run
       → AreHeardSo Comes (moves_of system run)

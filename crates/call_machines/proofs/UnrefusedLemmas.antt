@@ -22,7 +22,7 @@ use Rattle.schedules.specs.Position.{is_idle}
 use Rattle.schedules.specs.Program.{event_in, proc}
 use Rattle.schedules.specs.declared.call.Call.TheVariants as core
 use Rattle.call_machines.specs.Ends.{HasEnded}
-use Rattle.call_machines.specs.Grain.{Grain, event_grain, moves_of, with_grain}
+use Rattle.call_machines.specs.Grain.{Grain, event_grain, grain_of, moves_of, with_grain}
 use Rattle.call_machines.specs.GrainEnds.{AreApart, AreBelowTop, AreUnrefused, IsUnrefused}
 use Rattle.call_machines.specs.GrainEnds.{NoSleepIsRefused, SleepsAfter, UnrefusedEndsHold}
 use Rattle.call_machines.specs.Machine.{Next}
@@ -98,6 +98,8 @@ posted_own (Next.Ask request) stage rendez fits may =
     absurd (subst (MayBePosted rendez) fits may)
 posted_own (Next.Return set) stage rendez fits may =
     absurd (subst (MayBePosted rendez) fits may)
+posted_own (Next.Post to set) stage rendez fits may =
+    absurd (subst (MayBePosted rendez) fits may)
 posted_own Next.Drain stage rendez fits may =
     absurd (subst (MayBePosted rendez) fits may)
 posted_own (Next.Over answer) stage rendez fits may =
@@ -108,6 +110,12 @@ module _ {At Request Reply Out Object : Type 0} (system : System At Request Repl
   NoRefusal event said stage =
       is_idle (phase_after said event stage) ≡ true
       → IsUnrefused system (event_grain system event said)
+
+  -- the same of what a machine does
+  abbrev NoneRefused : Next Request Out → Event → Answer → Phase → Type 0
+  NoneRefused n event said stage =
+      is_idle (phase_after said event stage) ≡ true
+      → IsUnrefused system (grain_of system n event said)
 
   clear_unrefused : (some : Bool) (set : NoteSet) (pid : ℕ)
       → IsUnrefused system (event_grain system (Clear (proc pid))
@@ -236,7 +244,7 @@ module _ {At Request Reply Out Object : Type 0} (system : System At Request Repl
         → (n : Next Request Out) → system.machine.does (own_in system pid past).at ≡ n
         → (stage : Phase) → phase_of s pid ≡ stage → InPhase n stage → (event : Event)
         → event_for pid stage n ≡ Some event
-        → NoRefusal event (answer_to s event) stage
+        → NoneRefused n event (answer_to s event) stage
     event_unrefused apart below pid low (Next.Sleep own number) does stage at fits event is =
         let same : event_in pid stage (core.Sleep own number) ≡ event = cc in
         subst (λ (e : Event). NoRefusal e (answer_to s e) stage) same
@@ -264,20 +272,24 @@ module _ {At Request Reply Out Object : Type 0} (system : System At Request Repl
         subst (λ (e : Event). NoRefusal e (answer_to s e) stage)
         (ap (λ (p : Phase). event_in pid p core.Drain) (sym fits) ∙ same)
         (λ idle. drain_unrefused (answer_to s (Drain (proc pid))) pid)
+    event_unrefused apart below pid low (Next.Post to set) does stage at fits event is = λ idle. tt
     event_unrefused apart below pid low n does stage at fits event is = absurd cc
 
   step_unrefused : (pid : ℕ) (act : Act Request Reply) (past : List (Step Request Reply))
       → AreUnrefused system (moves_of system past)
       → ((event : Event) (said : Answer) → act ≡ Made event said
-      → NoRefusal event said (own_in system pid past).stage)
+      → NoneRefused (system.machine.does (own_in system pid past).at) event said
+      (own_in system pid past).stage)
       → AreUnrefused system (moves_of system (record { by = pid; act = act } ∷ past))
   step_unrefused pid (Asked request reply) past so_far each = (so_far, tt)
   step_unrefused pid (Made event said) past so_far each =
       by (is_idle (phase_after said event (own_in system pid past).stage)) (each event said refl)
     where
-      by : (over : Bool) → (over ≡ true → IsUnrefused system (event_grain system event said))
-          → AreUnrefused system (with_grain system pid over (event_grain system event said)
-          (moves_of system past))
+      grain : Grain Request Reply
+      grain = grain_of system (system.machine.does (own_in system pid past).at) event said
+
+      by : (over : Bool) → (over ≡ true → IsUnrefused system grain)
+          → AreUnrefused system (with_grain system pid over grain (moves_of system past))
       by true now_is = (so_far, now_is refl)
       by false now_is = so_far
 
@@ -299,14 +311,18 @@ module _ {At Request Reply Out Object : Type 0} (system : System At Request Repl
           → IsNext system.machine step.by (own_in system step.by past) act
           → IsAnswered system (world_at system past) (object_at system past) act
           → (event : Event) (said : Answer) → act ≡ Made event said
-          → NoRefusal event said (own_in system step.by past).stage
+          → NoneRefused (system.machine.does (own_in system step.by past).at) event said
+          (own_in system step.by past).stage
       each (Asked request reply) does told event said is = absurd cc
       each (Made made answered) does told event said is =
           let same : made ≡ event = cc in
           let answer_is : answered ≡ said = cc in
-          subst (λ (a : Answer). NoRefusal event a (own_in system step.by past).stage) answer_is
-          (subst (λ (e : Event). NoRefusal e answered (own_in system step.by past).stage) same
-          (subst (λ (a : Answer). NoRefusal made a (own_in system step.by past).stage) (sym told)
+          subst (λ (a : Answer). NoneRefused (system.machine.does (own_in system step.by past).at)
+          event a (own_in system step.by past).stage) answer_is
+          (subst (λ (e : Event). NoneRefused (system.machine.does (own_in system step.by past).at) e
+          answered (own_in system step.by past).stage) same
+          (subst (λ (a : Answer). NoneRefused (system.machine.does (own_in system step.by past).at)
+          made a (own_in system step.by past).stage) (sym told)
           (event_unrefused past before so_far apart below step.by of.right.1.below
           (system.machine.does (own_in system step.by past).at) refl
           (own_in system step.by past).stage (stage_is system past before step.by)

@@ -6,6 +6,7 @@ use Rattle.std.proofs.Common.{refl, sym, ◌∙◌, ap, subst, Result, Ok, Err, 
 use Rattle.std.proofs.lemmas.Bool.Decides.{eqb_tells, nat_tests}
 use Rattle.sync_base.specs.declared.fault.Fault.{Fault}
 use Rattle.sync_base.specs.declared.fault.Fault.TheVariants as fault
+use Rattle.sync_base.specs.declared.ids.Pid.{Pid}
 use Rattle.sync_base.specs.declared.ids.RendezId.{RendezId}
 use Rattle.sync_base.specs.declared.note.NoteSet.{NoteSet}
 use Rattle.sync_base.specs.declared.limits.TheConstants.{TOP_LEVEL}
@@ -40,7 +41,7 @@ use Rattle.call_machines.specs.Runs.{start_of, world_at}
 use Rattle.call_machines.specs.Runs.Act.{Asked, Made}
 use Rattle.call_machines.specs.WholeCalls.{IsKernelOf, IsThereFor, KnowsOwn, events_of, process_of}
 use Rattle.call_machines.specs.WholeCalls.{with_event}
-use Rattle.call_machines.proofs.GrainNotes.{drain_told}
+use Rattle.call_machines.proofs.GrainNotes.{drain_told, note_told}
 use Rattle.call_machines.proofs.RunLemmas.{is_core, sound_at, there_at}
 use Rattle.call_machines.proofs.ScheduleLemmas.{acts_more, acts_others, front_of, last_of, stage_is}
 use Rattle.call_machines.proofs.SleepEvents.{Leads, event_leads, told_there}
@@ -377,6 +378,23 @@ module _ {At Request Reply Out Object Seat : Type 0} (system : System At Request
                   sound.sound.whole.levels ∙ (sound.rendez_stay ∙ sym kernel.rendez_are))
                   o.stage l stage_here goes
 
+          post_event : (to : Pid) (set : NoteSet) → system.machine.does o.at ≡ Next.Post to set
+              → o.stage ≡ phase.Idle → Comes o.at a l
+              → EventTo (Note to set) (answer_to s (Note to set))
+          post_event to set does idle comes of_words =
+              subst (λ (said : Answer). InCall
+              (own_after system.machine o (Made (Note to set) said))
+              a (with_step (told_so pid (Note to set) said) l))
+              (sym (note_told s to.0 set (there_at system to.0 low past of_past)))
+              (over_so o a (Note to set) answer.Noted o.stage
+              (told_so pid (Note to set) answer.Noted ∷ l) l comes (Next.Post to set) does
+              Outcome.Went refl (refl, refl) (ap is_idle idle))
+            where
+              low : to.0 < procs system
+              low =
+                  subst (IsThereFor system) does
+                  (may comes.times (record { state = o.at; at = here a l }) comes.plays)
+
           note_event : (set : NoteSet) → system.machine.does o.at ≡ Next.Return set
               → o.stage ≡ phase.Idle → Comes o.at a l
               → EventTo (Note (proc pid) set) (answer_to s (Note (proc pid) set))
@@ -467,6 +485,12 @@ module _ {At Request Reply Out Object Seat : Type 0} (system : System At Request
                       (sym between.idle) in cc) in
                       subst (λ (e : Event). EventTo e (answer_to s e)) same
                       (drain_event does between.idle between.comes)
+                  begins (Next.Post to set) does is =
+                      let same : Note to set ≡ made =
+                      (let both = ap (λ (p : Phase). event_in pid p (core.Note to set))
+                      (sym between.idle) in cc) in
+                      subst (λ (e : Event). EventTo e (answer_to s e)) same
+                      (post_event to set does between.idle between.comes)
                   begins (Next.Return set) does is =
                       let same : Note (proc pid) set ≡ made =
                       (let both = ap (λ (p : Phase). event_in pid p (core.Note (proc pid) set))

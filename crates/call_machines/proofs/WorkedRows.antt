@@ -4,6 +4,7 @@ use Rattle.std.proofs.Common.{[], ◌∷◌, Result, Ok, Err, refl, ap, arith}
 use Rattle.std.specs.Prelude.{⊤}
 use Rattle.sync_base.specs.declared.fault.Fault.{Fault}
 use Rattle.sync_base.specs.declared.fault.Fault.TheVariants as fault
+use Rattle.sync_base.specs.declared.ids.Pid.{Pid}
 use Rattle.sync_base.specs.declared.limits.TheConstants.{TOP_LEVEL}
 use Rattle.sync_base.specs.declared.note.Note.TheVariants.{Alarm, Interrupt}
 use Rattle.sync_base.specs.declared.note.NoteSet.{NoteSet}
@@ -16,8 +17,10 @@ use Rattle.sleep_core.specs.declared.phase.Phase.TheVariants as phase
 use Rattle.sleep_core.specs.State.{opening}
 use Rattle.waiting.specs.Waiting.{Promise}
 use Rattle.call_machines.specs.Grain.{AreMoves, Grain, May, Move, coarse_of, levels_by, notes_by}
-use Rattle.call_machines.specs.Grain.{with_move}
-use Rattle.call_machines.specs.Grain.Grain.{Drained, Heard, Noted, Refused, Returned, Went, Woken}
+use Rattle.call_machines.specs.Grain.{grain_of, notes_after, with_move}
+use Rattle.call_machines.specs.StrictRuns.{MayLoosely}
+use Rattle.call_machines.specs.Grain.Grain.{Drained, Heard, Noted, Posted, Refused, Returned, Went}
+use Rattle.call_machines.specs.Grain.Grain.{Woken}
 use Rattle.call_machines.specs.GrainEnds.{AreApart, AreUnrefused, SleepsAfter}
 use Rattle.call_machines.specs.Replies.{AreAskedSo, AreHeardSo}
 use Rattle.call_machines.specs.Machine.{Next, Outcome, next_with, outcome_with}
@@ -122,6 +125,10 @@ posts_to_itself : next_event phase.Idle (Next.Return (only Alarm))
     ≡ Some (event.Note (proc 0) (only Alarm))
 posts_to_itself = refl
 
+posts_to_another : next_event phase.Idle (Next.Post (proc 4) (only Alarm))
+    ≡ Some (event.Note (proc 4) (only Alarm))
+posts_to_another = refl
+
 takes_its_own_notes : next_event phase.Idle Next.Drain ≡ Some (event.Drain (proc 0))
 takes_its_own_notes = refl
 
@@ -217,6 +224,9 @@ sleeps_for_ever is = is.1 refl
 sleeps_where_nothing_is : IsThereFor latch (Next.Sleep (rendez 2) 0) → ⊥
 sleeps_where_nothing_is is = let low : 2 < 2 = is.0 in absurd (omega arith)
 
+posts_to_who_is_not_there : IsThereFor latch (Next.Post (proc 2) (only Alarm)) → ⊥
+posts_to_who_is_not_there low = omega (arith, low)
+
 wakes_what_is_not_there : IsThereFor latch (Next.Wake (rendez 2) 1) → ⊥
 wakes_what_is_not_there low = let is : 2 < 2 = low in absurd (omega arith)
 
@@ -254,6 +264,25 @@ returns_others : MayDo no_notes (Next.Return (only Alarm)) (Returned (only Inter
 returns_others may =
     let alarm = ap (λ (set : NoteSet). set.alarm) (returned (only Alarm) (only Interrupt) may) in cc
 
+posted : (pid other : Pid) (set sent : NoteSet)
+    → ◌≡◌ {A = Next LatchCall Unit} (Next.Post pid set) (Next.Post other sent)
+    → (pid ≡ other) × (set ≡ sent)
+posted pid other set sent is = (cc, cc)
+
+posts_others : MayDo no_notes (Next.Post (proc 4) (only Alarm)) (Posted (proc 4) (only Interrupt))
+    → ⊥
+posts_others may =
+    let same = (posted (proc 4) (proc 4) (only Alarm) (only Interrupt) may).1 in
+    let alarm = ap (λ (set : NoteSet). set.alarm) same in
+    cc
+
+posts_elsewhere : MayDo no_notes (Next.Post (proc 4) (only Alarm)) (Posted (proc 5) (only Alarm))
+    → ⊥
+posts_elsewhere may =
+    let same = (posted (proc 4) (proc 5) (only Alarm) (only Alarm) may).0 in
+    let number = ap (λ (pid : Pid). pid.0) same in
+    omega (arith, number)
+
 goes_on_while_it_asks : MayDo no_notes (Next.Ask Look) Went → ⊥
 goes_on_while_it_asks may = let does = may.2 in cc
 
@@ -274,6 +303,37 @@ takes_its_notes = refl
 has_them_again : notes_by {Request = LatchCall} {Reply = LatchReply} no_notes
     (Returned (only Alarm)) ≡ only Alarm
 has_them_again = refl
+
+-- a process has the notes that another posted to it
+its_receiver_has_them :
+    notes_after latch (record (coarse_of latch []) { notes = no_notes ∷ only Alarm ∷ [] }) 0
+    (Posted (proc 1) (only Interrupt))
+    ≡ no_notes ∷ record (only Alarm) { interrupt = true } ∷ []
+its_receiver_has_them = refl
+
+-- and one that is not there has none
+nobody_has_them :
+    notes_after latch (record (coarse_of latch []) { notes = no_notes ∷ only Alarm ∷ [] }) 0
+    (Posted (proc 7) (only Interrupt))
+    ≡ no_notes ∷ only Alarm ∷ []
+nobody_has_them = refl
+
+it_was_posted : grain_of latch (Next.Post (proc 1) (only Alarm))
+    (event.Note (proc 1) (only Alarm)) answer.Noted
+    ≡ Posted (proc 1) (only Alarm)
+it_was_posted = refl
+
+it_was_returned : grain_of latch (Next.Return (only Alarm)) (event.Note (proc 0) (only Alarm))
+    answer.Noted
+    ≡ Returned (only Alarm)
+it_was_returned = refl
+
+-- notes that came after it was woken are pending where its wait ends well
+wakes_loosely : MayLoosely latch false (only Alarm) (Next.Sleep (rendez 3) 7) Woken
+wakes_loosely = (rendez 3, 7, refl)
+
+wakes_loosely_while_it_asks : MayLoosely latch false no_notes (Next.Ask Look) Woken → ⊥
+wakes_loosely_while_it_asks may = let does = may.2 in cc
 
 -- a lower wakeup leaves the level
 keeps_the_greatest : levels_by {Request = LatchCall} {Reply = LatchReply} {Out = Unit} (4 ∷ 6 ∷ [])
@@ -425,6 +485,10 @@ nothing_follows_the_end = refl
 
 does_what_its_call_does : program_does latch turns (In 1 Waking) ≡ Next.Wake (rendez 0) 1
 does_what_its_call_does = refl
+
+posts_as_its_call : with_call latch turns (Next.Post (proc 1) (only Alarm))
+    ≡ Next.Post (proc 1) (only Alarm)
+posts_as_its_call = refl
 
 takes_notes_as_its_call : with_call latch turns Next.Drain ≡ Next.Drain
 takes_notes_as_its_call = refl

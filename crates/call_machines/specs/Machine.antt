@@ -3,6 +3,7 @@
 -- correctness condition for concurrent objects" (1990), section 2, which are sequential.
 use Rattle.std.specs.Prelude.{ℕ, Result, Ok, Err}
 use Rattle.sync_base.specs.declared.fault.Fault.{Fault}
+use Rattle.sync_base.specs.declared.ids.Pid.{Pid}
 use Rattle.sync_base.specs.declared.ids.RendezId.{RendezId}
 use Rattle.sync_base.specs.declared.note.NoteSet.{NoteSet}
 
@@ -16,6 +17,8 @@ pub data Next (Request Out : Type 0) : Type 0 where
   Wake : RendezId → ℕ → Next Request Out
   -- it posts these notes to its own process again
   Return : NoteSet → Next Request Out
+  -- it posts these notes to this process
+  Post : Pid → NoteSet → Next Request Out
   -- it takes the notes of its process, without a sleep
   Drain : Next Request Out
   -- it is over, with this answer
@@ -27,7 +30,7 @@ pub data Outcome (Reply : Type 0) : Type 0 where
   Replied : Reply → Outcome Reply
   -- the sleep ended well, or failed with this fault
   Slept : Result Unit Fault → Outcome Reply
-  -- the wakeup or the return is over
+  -- the wakeup, the return or the post is over
   Went : Outcome Reply
   -- it took these notes
   Took : NoteSet → Outcome Reply
@@ -51,6 +54,7 @@ next_with ask out (Next.Ask request) = Next.Ask (ask request)
 next_with ask out (Next.Sleep rendez number) = Next.Sleep rendez number
 next_with ask out (Next.Wake rendez level) = Next.Wake rendez level
 next_with ask out (Next.Return set) = Next.Return set
+next_with ask out (Next.Post pid set) = Next.Post pid set
 next_with ask out Next.Drain = Next.Drain
 next_with ask out (Next.Over answer) = Next.Over (result_with out answer)
 

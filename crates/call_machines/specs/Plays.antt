@@ -27,6 +27,8 @@ module _ {Seat Request Reply Out : Type 0} (Serves : Request → Reply → Seat 
   HasDone (Next.Return set) Outcome.Went before after =
       (after.process ≡ notes before.process (pid_in before.process) set)
       × (after.seat ≡ before.seat)
+  HasDone (Next.Post pid set) Outcome.Went before after =
+      (after.process ≡ notes before.process pid set) × (after.seat ≡ before.seat)
   HasDone Next.Drain (Outcome.Took set) before after =
       (after.process ≡ drains before.process set) × (after.seat ≡ before.seat)
   HasDone does came before after = ⊥

@@ -39,6 +39,7 @@ module _ {At Request Reply Out Object : Type 0} (system : System At Request Repl
   abbrev pub IsThereFor : Next Request Out → Type 0
   IsThereFor (Next.Sleep rendez number) = (rendez.0 < system.rendez) × (number ≢ TOP_LEVEL)
   IsThereFor (Next.Wake rendez level) = rendez.0 < system.rendez
+  IsThereFor (Next.Post pid set) = pid.0 < procs system
   IsThereFor other = ⊤
 
 module _ {At Request Reply Out Object Seat : Type 0} (system : System At Request Reply Out Object)

@@ -21,6 +21,7 @@ module _ {Seat Request Reply Inner Outer Out Other : Type 0}
   done_inside (Next.Sleep rendez number) (Outcome.Slept (Err why)) old new done = done
   done_inside (Next.Wake other level) Outcome.Went old new done = done
   done_inside (Next.Return set) Outcome.Went old new done = done
+  done_inside (Next.Post pid set) Outcome.Went old new done = done
   done_inside Next.Drain (Outcome.Took set) old new done = done
   done_inside does came old new done = absurd done
 

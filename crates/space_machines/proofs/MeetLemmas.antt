@@ -96,6 +96,7 @@ module _ (space : TagSpace) (offered : Offered) (first : Point Member)
   served (Next.Sleep place count) (Outcome.Slept (Err why)) old new done = done
   served (Next.Wake other level) Outcome.Went old new done = done
   served (Next.Return set) Outcome.Went old new done = done
+  served (Next.Post pid set) Outcome.Went old new done = done
   served Next.Drain (Outcome.Took set) old new done = done
   served request came old new done = absurd done
 
