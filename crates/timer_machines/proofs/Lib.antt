@@ -6,6 +6,7 @@ pub mod PlayLemmas
 pub mod ReplyLemmas
 pub mod SleepLemmas
 pub mod TableLemmas
+pub mod TickLemmas
 pub mod TimedLemmas
 pub mod WithinLemmas
 mod WorkedMachines

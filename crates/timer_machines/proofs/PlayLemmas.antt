@@ -334,6 +334,13 @@ module _ {At Request Reply Out Seat : Type 0} (m : Machine At Request Reply Out)
           never (reply.Done out) so = let both = sym is ∙ so in cc
           never (reply.Wait number) so = let both = sym is ∙ so in cc
           never (reply.Refused why) so = let both = sym is ∙ so in cc
+      by (Next.Post to set) is Outcome.Went done marked =
+          absurd (never_at_first at old says (ap (stops_at m at) is) never)
+        where
+          never : (means : WaitReply Out) → m.does at ≡ next_for rendez means → ⊥
+          never (reply.Done out) so = let both = sym is ∙ so in cc
+          never (reply.Wait number) so = let both = sym is ∙ so in cc
+          never (reply.Refused why) so = let both = sym is ∙ so in cc
       by does is c done marked = absurd done
 
   -- it cancels its timer
@@ -470,6 +477,11 @@ module _ {At Request Reply Out Seat : Type 0} (m : Machine At Request Reply Out)
           says.first at failed (within_at old) (ap (stops_at m at) is)
           (λ other number so. let both = sym is ∙ so in cc) says.waits in
           absurd (let both = sym ended.is ∙ ap (ending_at m failed at) is in cc)
+      by (Next.Post to set) is Outcome.Went done marked =
+          let ended = ends_where_it_stops m start promise Serves Rests Waiting rendez keeps
+          says.first at failed (within_at old) (ap (stops_at m at) is)
+          (λ other number so. let both = sym is ∙ so in cc) says.waits in
+          absurd (let both = sym ended.is ∙ ap (ending_at m failed at) is in cc)
       by does is c done marked = absurd done
 
   -- it looked for the note of the tick
@@ -588,6 +600,7 @@ module _ {At Request Reply Out Seat : Type 0} (m : Machine At Request Reply Out)
       by (Next.Sleep other number) is = cc
       by (Next.Wake other level) is = cc
       by (Next.Return set) is = cc
+      by (Next.Post to set) is = cc
       by Next.Drain is = cc
       by (Next.Over told) is = cc
   over_so (Begins at) answer now so over = by (m.does at) refl over
@@ -630,6 +643,7 @@ module _ {At Request Reply Out Seat : Type 0} (m : Machine At Request Reply Out)
       by (Next.Sleep other number) does is = absurd (cc)
       by (Next.Wake other level) does is = absurd (cc)
       by (Next.Return set) does is = absurd (cc)
+      by (Next.Post to set) does is = absurd (cc)
       by Next.Drain does is = absurd (cc)
   over_so state answer now so over = absurd (cc)
 

@@ -1,10 +1,17 @@
 -- What a seat is replied whose timer is not set, and one whose timer is set.
-use Rattle.std.proofs.Common.{◌≡◌, ◌≢◌, ℕ, Bool, true, false, subst, sym, arith}
+use Rattle.std.proofs.Common.{◌≡◌, ◌≢◌, ℕ, Bool, true, false, List, [], ◌∷◌, Option, Some, None, subst}
+use Rattle.std.proofs.Common.{sym, ◌∙◌, ap, arith}
+use Rattle.histories.specs.declared.account.Share.{Share}
+use Rattle.timer_list.specs.declared.due.Due.{Due}
+use Rattle.timer_list.specs.declared.timer_object.Timer.{Timer}
+use Rattle.timer_list.specs.declared.timer_object.Timer.TheVariants.{Expired, Set, Unset}
+use Rattle.timer_list.specs.Timers.{answer_expired, answer_first, first_due, timer_of}
+use Rattle.timer_list.specs.TimerHistory.{has_timer}
 use Rattle.std.proofs.lemmas.Bool.Decides.{nat_tests}
 use Rattle.kernel_lock.specs.Seats.{number_of}
 use Rattle.sync_base.specs.declared.ids.Pid.{Pid}
 use Rattle.timer_list.specs.declared.timer_object.TimerCall.{TimerCall}
-use Rattle.timer_list.specs.declared.timer_object.TimerCall.TheVariants.{Add, Cancel}
+use Rattle.timer_list.specs.declared.timer_object.TimerCall.TheVariants.{Add, Cancel, Expire}
 use Rattle.timer_list.specs.declared.timer_object.TimerReply.{TimerReply}
 use Rattle.timer_list.specs.declared.timer_object.TimerReply.TheVariants as told
 use Rattle.timer_list.specs.declared.timers.Timers.{Timers}
@@ -77,3 +84,36 @@ module _ (timers : Timers) (old new : TimerSeat) where
       by other asks =
           absurd (cancel_never timers.procs (number_of old.seat) number other
           (found_so true (Cancel number) other at asks) (sym is) (λ same. cc) (λ same. cc))
+
+-- ---- a seat that asks which timer is due
+
+-- the calls of a seat that has one number
+abbrev mine_of : {Entry : Type 0} → List (Share Entry) → List Entry
+mine_of [] = []
+mine_of (share ∷ shares) = share.mine
+
+-- a seat's timer is set or not, not both
+pub seat_once : (timers : Timers) (seat : TimerSeat) (set other : Bool)
+    → IsSeatAtTimers timers set seat → IsSeatAtTimers timers other seat → set ≡ other
+seat_once timers seat set other one two =
+    sym one.set_is
+    ∙ (ap has_timer (ap mine_of (sym one.shares_are ∙ two.shares_are)) ∙ two.set_is)
+
+-- it is replied nothing but whose timer ended, or that none is due
+pub expire_so : (timers : Timers) (old new : TimerSeat) (now : ℕ) (answer : TimerReply)
+    → IsSeatAtTimers timers false old → AsksTimers timers false (Expire now) answer old new
+    → ((pid : Pid) → answer ≢ told.Ended pid) → answer ≢ told.NoneDue → ⊥
+expire_so timers old new now answer at asks ended none =
+    by (first_due now found.state) found.answer_is
+  where
+    found : IsTimed timers.procs (number_of old.seat) false (Expire now) answer
+    found = is_timed timers false (Expire now) answer old new at asks.seat.history asks.served
+
+    of_timer : (timer : Timer) → answer ≡ answer_expired timer → ⊥
+    of_timer (Set pid deadline) is = ended pid is
+    of_timer Unset is = none is
+    of_timer Expired is = none is
+
+    by : (first : Option Due) → answer ≡ answer_first found.state first → ⊥
+    by None is = none is
+    by (Some due) is = of_timer (timer_of found.state due.seat) is

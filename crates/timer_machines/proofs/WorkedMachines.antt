@@ -14,7 +14,7 @@ use Rattle.semaphore.specs.declared.sema_object.SemaCall.TheVariants.{Acquire, L
 use Rattle.semaphore.specs.declared.sema_object.SemaReply.TheVariants as reply
 use Rattle.semaphore.specs.Seats.{rendez_of_seat}
 use Rattle.timer_list.specs.declared.limits.TheConstants.{LAST_THRESHOLD}
-use Rattle.timer_list.specs.declared.timer_object.TimerCall.TheVariants.{Add, Cancel}
+use Rattle.timer_list.specs.declared.timer_object.TimerCall.TheVariants.{Add, Cancel, Expire}
 use Rattle.timer_list.specs.declared.timer_object.TimerReply.TheVariants as told
 use Rattle.timer_list.specs.declared.timers.Timers.{Timers}
 use Rattle.waiting.specs.declared.call.Reply.TheVariants as wait_reply
@@ -31,6 +31,8 @@ use Rattle.timer_machines.specs.Requests.{IsMarkedBy, ServesTimed, TimedReply, T
 use Rattle.timer_machines.specs.Requests.{TimedSeat}
 use Rattle.timer_machines.specs.Requests.TimedReply.{FromDevice, FromTimers}
 use Rattle.timer_machines.specs.Requests.TimedRequest.{ToDevice, ToTimers}
+use Rattle.timer_machines.specs.TickMachine.{tick_does, tick_goes_on}
+use Rattle.timer_machines.specs.TickMachine.TickState.{Asking, Telling, Ticked}
 use Rattle.timer_machines.specs.TimedSleeps.{ServesNone, sleep_does, sleep_goes_on}
 use Rattle.timer_machines.specs.TimedSleeps.SleepState.{Sleeping, Slept}
 use Rattle.timer_machines.specs.TimedMachines.{Deadline, TimedState, ended_with, left_over}
@@ -283,6 +285,34 @@ it_is_over_then = refl
 -- it has no device that would serve it
 is_served_nothing : (request reply : ⊥) (old new : Unit {0}) → ServesNone request reply old new → ⊥
 is_served_nothing request reply old new serves = serves
+
+-- ---- a tick, at moment 160, of two timers in a kernel of six processes
+
+it_asks_which_is_due : tick_does 2 6 160 (Asking 1) ≡ Next.Ask (Expire 160)
+it_asks_which_is_due = refl
+
+it_posts_the_note : tick_does 2 6 160 (Telling 1 pid) ≡ Next.Post pid (only Expired)
+it_posts_the_note = refl
+
+it_has_ticked : tick_does 2 6 160 (Ticked 1) ≡ Next.Over (Ok 1)
+it_has_ticked = refl
+
+one_more_expired : tick_goes_on 2 6 160 (Asking 0) (Outcome.Replied (told.Ended pid))
+    ≡ Telling 1 pid
+one_more_expired = refl
+
+-- a process that the kernel has not is told nothing
+it_is_not_there : tick_goes_on 2 5 160 (Asking 0) (Outcome.Replied (told.Ended pid)) ≡ Asking 1
+it_is_not_there = refl
+
+none_is_due : tick_goes_on 2 6 160 (Asking 1) (Outcome.Replied told.NoneDue) ≡ Ticked 1
+none_is_due = refl
+
+it_asks_on : tick_goes_on 2 6 160 (Telling 1 pid) Outcome.Went ≡ Asking 1
+it_asks_on = refl
+
+all_have_expired : tick_goes_on 2 6 160 (Telling 2 pid) Outcome.Went ≡ Ticked 2
+all_have_expired = refl
 
 -- ---- its two seats
 

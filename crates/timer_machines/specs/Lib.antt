@@ -1,4 +1,5 @@
 pub mod Requests
+pub mod TickMachine
 pub mod TimedAcquires
 pub mod TimedMachines
 pub mod TimedMeets

@@ -116,6 +116,7 @@ module _ {At Request Reply Out : Type 0} (machine : Machine At Request Reply Out
       Next.Ask (ToTimers (Add until.seat until.pid until.moment))
   begins_with (Next.Wake rendez level) = Next.Wake rendez level
   begins_with (Next.Return set) = Next.Return set
+  begins_with (Next.Post to set) = Next.Post to set
   begins_with Next.Drain = Next.Drain
   begins_with (Next.Over answer) = Next.Over answer
 
@@ -125,6 +126,7 @@ module _ {At Request Reply Out : Type 0} (machine : Machine At Request Reply Out
   waits_with (Next.Sleep rendez number) = Next.Sleep rendez number
   waits_with (Next.Wake rendez level) = Next.Wake rendez level
   waits_with (Next.Return set) = Next.Ask (ToTimers (Cancel until.seat))
+  waits_with (Next.Post to set) = Next.Post to set
   waits_with Next.Drain = Next.Drain
   waits_with (Next.Over answer) = Next.Ask (ToTimers (Cancel until.seat))
 

@@ -1,6 +1,7 @@
 //! What the contracts of calls with a deadline say, by machines. Each law is a function that does
 //! nothing: its contract is the law.
 ghost use Rattle.call_machines.specs.Machine.{Machine};
+ghost use Rattle.timer_machines.specs.TickMachine.{TicksArePlays};
 ghost use Rattle.timer_machines.specs.TimedAcquires.{TimedAcquiresArePlays};
 ghost use Rattle.timer_machines.specs.TimedMeets.{TimedMeetsArePlays};
 ghost use Rattle.timer_machines.specs.TimedPlays.{TimedCallsArePlays};
@@ -28,4 +29,9 @@ pub fn timed_meets_are_plays()
 /// And that of a semacquire with a deadline.
 pub fn timed_acquires_are_plays()
     ensures { TimedAcquiresArePlays }
+{}
+
+/// A tick is as its contract says if and only if its machine plays so.
+pub fn ticks_are_plays()
+    ensures { TicksArePlays }
 {}
