@@ -1,6 +1,6 @@
 -- What a seat is replied whose timer is not set, and one whose timer is set.
-use Rattle.std.proofs.Common.{◌≡◌, ◌≢◌, ℕ, Bool, true, false, List, [], ◌∷◌, Option, Some, None, subst}
-use Rattle.std.proofs.Common.{sym, ◌∙◌, ap, arith}
+use Rattle.std.proofs.Common.{◌≡◌, ◌≢◌, ℕ, Bool, true, false, List, [], ◌∷◌, Option, Some, None}
+use Rattle.std.proofs.Common.{subst, sym, ◌∙◌, ap, arith}
 use Rattle.histories.specs.declared.account.Share.{Share}
 use Rattle.timer_list.specs.declared.due.Due.{Due}
 use Rattle.timer_list.specs.declared.timer_object.Timer.{Timer}

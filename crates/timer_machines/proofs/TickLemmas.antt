@@ -1,5 +1,6 @@
 -- A play of a tick's machine is a tick as its contract says, and each tick is such a play.
-use Rattle.std.proofs.Common.{◌≡◌, ◌≢◌, ◌⊎◌, ◌<◌, ◌≤◌, ◌+◌, ◌==◌, eqb, ℕ, zero, suc, Bool, true, false}
+use Rattle.std.proofs.Common.{◌≡◌, ◌≢◌, ◌⊎◌, ◌<◌, ◌≤◌, ◌+◌, ◌==◌, eqb, ℕ, zero, suc, Bool, true}
+use Rattle.std.proofs.Common.{false}
 use Rattle.std.proofs.Common.{nat_lt, IsTrue, if◌then◌else◌, List, [], ◌∷◌, length, Ok, inl, inr}
 use Rattle.std.proofs.Common.{refl, sym, ◌∙◌, ap, subst, arith}
 use Rattle.std.proofs.lemmas.Bool.Decides.{nat_tests}
@@ -315,8 +316,7 @@ module _ (timers : Timers) (kernel now : ℕ) (before : Point TimerSeat)
           ⊎ ((count ≡ timers.procs) × (after ≡ ticks.last)) → Comes (Ticked count) after
       by (inl none) =
           more (Asking count) (Outcome.Replied told.NoneDue) ticks.last after
-          (asks_here count ticks.last none.0 here)
-          (
+          (asks_here count ticks.last none.0 here) (
             served_so told.NoneDue ticks.last.seat after.seat there.seat none.1.asks,
             none.1.idle,
           )
