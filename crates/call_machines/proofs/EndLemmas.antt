@@ -2,7 +2,7 @@
 use Rattle.std.proofs.Common.{◌⊎◌, ◌<◌, List, [], ◌∷◌, sym, subst}
 use Rattle.std.specs.List.{AllByRecursion}
 use Rattle.sleep_core.specs.State.{State, phase_of}
-use Rattle.call_machines.specs.Ends.{EndsHold, HasEnded, IsParked, IsStuck}
+use Rattle.call_machines.specs.Ends.{HasEnded, IsParked, IsStuck, RestsHold}
 use Rattle.call_machines.specs.Runs.{event_for}
 use Rattle.call_machines.specs.Runs.{AreRight, OwnState, Step, System, procs, world_at}
 use Rattle.call_machines.specs.Schedules.{Position, makers_of, position_of, state_of}
@@ -14,10 +14,10 @@ module _ {At Request Reply Out Object : Type 0} (system : System At Request Repl
   below [] played = tt
   below (step ∷ past) played = (played.1.below, below past played.0)
 
-  -- so where no schedule is stuck no run has stopped short
-  pub ends_hold : EndsHold system
-  ends_hold never run of stopped pid low =
-      subst (λ (o : OwnState system.machine). HasEnded (system.machine.does o.at))
+  -- so where each process rests at a stuck position it rests where a run has stopped
+  pub rests_hold : (Rests : At → Type 0) → RestsHold system Rests
+  rests_hold Rests never run of stopped pid low =
+      subst (λ (o : OwnState system.machine). Rests o.at)
       (sym (so.tracks.own pid))
       (never (makers_of run) (below run of.right) stuck pid low)
     where

@@ -25,7 +25,7 @@ use Rattle.schedules.specs.Program.{event_in, proc}
 use Rattle.schedules.specs.declared.call.Call.TheVariants as core
 use Rattle.call_machines.specs.Ends.{HasEnded, HasStopped, IsParked}
 use Rattle.call_machines.specs.Grain.{AreMoves, Move, at_of, coarse_of, moves_of}
-use Rattle.call_machines.specs.GrainEnds.{CoarseEndsHold, IsCoarseStuck, ObjectEndsHold, WaitsBy}
+use Rattle.call_machines.specs.GrainEnds.{CoarseRestsHold, IsCoarseStuck, ObjectRestsHold, WaitsBy}
 use Rattle.call_machines.specs.GrainEnds.{WaitsOn}
 use Rattle.call_machines.specs.Machine.{Next}
 use Rattle.call_machines.specs.Runs.{IsOfCalls, Step, System, event_for, own_in, procs, world_at}
@@ -392,20 +392,21 @@ module _ {At Request Reply Out Object : Type 0} (system : System At Request Repl
 
 -- ---- the law
 
--- if no run at the grain of calls deadlocks, no run of the calls does
-pub coarse_ends_hold : {At Request Reply Out Object : Type 0}
-    (system : System At Request Reply Out Object) → CoarseEndsHold system
-coarse_ends_hold system never run of stopped pid low =
+-- where each process rests at a coarse position in which nobody goes on, it rests in a run
+pub coarse_rests_hold : {At Request Reply Out Object : Type 0}
+    (system : System At Request Reply Out Object) (Rests : At → Type 0)
+    → CoarseRestsHold system Rests
+coarse_rests_hold system Rests never run of stopped pid low =
     let fine = fine_run system run of in
-    subst (λ x. HasEnded (system.machine.does x)) (fine.coarse.states pid)
+    subst Rests (fine.coarse.states pid)
     (never (moves_of system run) fine.are (is_stuck system run of stopped) pid low)
 
--- nor where the object says who may go on, and its wakeups are due
-pub object_ends_hold : {At Request Reply Out Object : Type 0}
+-- and where the object says who may go on, and its wakeups are due
+pub object_rests_hold : {At Request Reply Out Object : Type 0}
     (system : System At Request Reply Out Object) (Goes : Object → At → Type 0)
-    → ObjectEndsHold system Goes
-object_ends_hold {Request = Request} {Reply = Reply} system Goes due never =
-    coarse_ends_hold system (λ moves are stuck.
+    (Rests : At → Type 0) → ObjectRestsHold system Goes Rests
+object_rests_hold {Request = Request} {Reply = Reply} system Goes Rests due never =
+    coarse_rests_hold system Rests (λ moves are stuck.
     never moves are (λ pid low. waits moves are stuck pid low (stuck pid low)))
   where
     waits : (moves : List (Move Request Reply)) → AreMoves system moves

@@ -157,13 +157,13 @@ module _ {At Request Reply Out Object : Type 0} (system : System At Request Repl
   -- or it has posted notes to another, if that is there
   pub record IsPost (n : Next Request Out) (event : Event) (told : Answer) (stage : Phase)
       : Type 0 where
-    -- to this process
+    -- the process that it posted to
     pub to : Pid
-    -- these notes
+    -- the notes that it posted
     pub set : NoteSet
     -- as its machine does
     pub does : n ≡ Next.Post to set
-    -- that is over
+    -- and its process is idle again
     pub over : is_idle stage ≡ true
     -- and its machine goes on
     pub hears : ◌≡◌ {A = Outcome Reply} Outcome.Went (outcome_of event told)

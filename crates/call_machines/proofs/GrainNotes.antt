@@ -17,7 +17,8 @@ use Rattle.sleep_core.specs.declared.phase.ProcFlags.{ProcFlags}
 use Rattle.sleep_core.specs.State.{State, flags_of, no_flags, phase_of, posted_as, returned_of}
 use Rattle.sync_base.specs.declared.ids.Pid.{Pid}
 use Rattle.sync_base.specs.declared.ids.RendezId.{RendezId}
-use Rattle.sleep_core.specs.Step.{answer_in, answer_to, changed_by, is_refusal, with_phase, with_returned}
+use Rattle.sleep_core.specs.Step.{answer_in, answer_to, changed_by, is_refusal, with_phase}
+use Rattle.sleep_core.specs.Step.{with_returned}
 use Rattle.sleep_core.specs.Step.{with_word, word_at, world_after, world_told}
 use Rattle.sleep_core.specs.Table.{Cell, Word, Wakeup, cell_of, ending_of, has_notes, number_in}
 use Rattle.sleep_core.specs.Table.{phase_after}
@@ -160,6 +161,7 @@ note_told s pid set there =
     told_there s pid (Note (proc pid) set) (phase_of s pid) refl there.within refl
     (grind (arith, nat_tests))
 
+-- a note joins the notes of the process that it is posted to
 pub note_flags : (s : State) (pid : ℕ) (set : NoteSet) → IsThere s pid
     → (world_after s (Note (proc pid) set)).flags ≡ slice_set s.flags pid (noted_with s pid set)
 note_flags s pid set there =

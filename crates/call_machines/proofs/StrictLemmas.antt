@@ -9,19 +9,20 @@ use Rattle.sync_base.specs.declared.ids.RendezId.{RendezId}
 use Rattle.sync_base.specs.declared.note.NoteSet.{NoteSet}
 use Rattle.sync_base.specs.NoteSet.{no_notes}
 use Rattle.sleep_core.specs.Table.{has_notes}
-use Rattle.call_machines.specs.Ends.{HasEnded}
+use Rattle.call_machines.specs.Ends.{HasEnded, IsOver}
+use Rattle.call_machines.specs.StrictRuns.{AsksAgainAtRest, StrictRestsHold, WaitsAskAtRest}
 use Rattle.call_machines.specs.Grain.{AreMoves, Coarse, Grain, May, Move, at_of, coarse_of}
 use Rattle.call_machines.specs.Grain.{moved, notes_by, notes_of, object_with, outcome_by}
 use Rattle.call_machines.specs.Grain.Grain.{Drained, Heard, Noted, Posted, Refused, Returned, Went}
 use Rattle.call_machines.specs.Grain.Grain.{Woken}
-use Rattle.call_machines.specs.GrainEnds.{AreUnrefused, HaveEndedAt}
+use Rattle.call_machines.specs.GrainEnds.{AreUnrefused, RestIn}
 use Rattle.call_machines.specs.GrainEnds.{IsCoarseStuck, IsObjectStuck, IsUnrefused, WaitsBy}
 use Rattle.call_machines.specs.GrainEnds.{WaitsOn}
 use Rattle.call_machines.specs.Machine.{Next, Outcome}
 use Rattle.call_machines.specs.Grain.{event_grain, grain_of, moves_of, receiver, slept_grain}
 use Rattle.call_machines.specs.Grain.{with_grain, with_move}
 use Rattle.call_machines.specs.Replies.{AreAskedSo, AreHeardSo, IsAskedSo, IsHeardSo}
-use Rattle.call_machines.specs.Replies.{NeverStuckSo, SuchEndsHold}
+use Rattle.call_machines.specs.Replies.{SuchRestsHold, SuchStuckAtRest}
 use Rattle.call_machines.specs.Runs.{Act, OwnState, Step, System, own_in, procs}
 use Rattle.call_machines.specs.Runs.Act.{Asked, Made}
 use Rattle.call_machines.specs.StrictRuns.{AreLooseMoves, AreOneWait, AreStrict}
@@ -44,8 +45,8 @@ use Rattle.std.proofs.lemmas.Bool.Decides.{nat_tests}
 use Rattle.std.proofs.lemmas.List.{set_past}
 
 module _ {At Request Reply Out Object : Type 0} (system : System At Request Reply Out Object)
-    (Goes : Object → At → Type 0) (Comes : Request → Reply → Type 0)
-    (again : WaitsAskAgain system Goes) where
+    (Goes : Object → At → Type 0) (Rests : At → Type 0) (Comes : Request → Reply → Type 0)
+    (again : WaitsAskAtRest system Goes Rests) where
   -- ---- the two runs
 
   -- the strict run still sleeps, where the other was woken without notes
@@ -58,7 +59,7 @@ module _ {At Request Reply Out Object : Type 0} (system : System At Request Repl
   -- a process is in the same state in both runs, or in two waits of one call, or was woken early
   data Fits (at strict : At) : Type 0 where
     IsSame : at ≡ strict → Fits at strict
-    IsOneWait : AreOneWait system Goes at strict → Fits at strict
+    IsOneWait : AreOneWait system Goes at strict → (Rests strict → Rests at) → Fits at strict
     WasEarly : IsEarly at strict → Fits at strict
 
   record Sized (at : Coarse system) : Type 0 where
@@ -264,7 +265,8 @@ module _ {At Request Reply Out Object : Type 0} (system : System At Request Repl
           both grain
           (loosely system now.object (notes_of system now pid)
           (system.machine.does (at_of system now pid)) grain
-          (may_now (system.machine.does (at_of system now pid)) grain (subst (λ (a : At). May system at.object (notes_of system at pid)
+          (may_now (system.machine.does (at_of system now pid)) grain
+          (subst (λ (a : At). May system at.object (notes_of system at pid)
           (system.machine.does a) grain) same may)))
           unrefused strict heard
           (IsSame (ap (λ (a : At). system.machine.goes_on a (outcome_by grain)) same))
@@ -307,7 +309,8 @@ module _ {At Request Reply Out Object : Type 0} (system : System At Request Repl
           }))
       asleep_step (Noted set) one may unrefused =
           both (Noted set)
-          (may_now (system.machine.does (at_of system now pid)) (Noted set) (one.rendez, one.other_number, one.other_sleeps, may.3, may.4))
+          (may_now (system.machine.does (at_of system now pid)) (Noted set)
+          (one.rendez, one.other_number, one.other_sleeps, may.3, may.4))
           tt tt tt (IsSame (one.alike (Err (fault.Interrupted set))))
       asleep_step (Refused why) one may unrefused = absurd unrefused
       asleep_step (Heard request reply) one may unrefused =
@@ -355,35 +358,42 @@ module _ {At Request Reply Out Object : Type 0} (system : System At Request Repl
           → IsEarly old (at_of system now pid)
           → system.machine.does (woken system (at_of system now pid)) ≡ Next.Ask request
           → AsksInVain system Goes now.object (at_of system now pid) request
+          → (Rests (at_of system now pid) → Rests (system.machine.goes_on
+          (woken system (at_of system now pid))
+          (Outcome.Replied (system.answer now.object request))))
           → May system at.object (notes_of system at pid) (system.machine.does old) grain
           → Strictly (after at grain)
-      in_vain request (Heard other reply) early asks vain may =
+      in_vain request (Heard other reply) early asks vain rests may =
           let is = sym asks ∙ (ap system.machine.does (sym early.is) ∙ may.0) in
           let same : request ≡ other = cc in
+          let comes : system.machine.goes_on (woken system (at_of system now pid))
+          (Outcome.Replied (system.answer now.object request))
+          ≡ system.machine.goes_on (at_of system at pid) (Outcome.Replied reply) =
+          ap (λ (r : Reply). system.machine.goes_on (woken system (at_of system now pid))
+          (Outcome.Replied r))
+          (ap (λ (r : Request). system.answer now.object r) same
+          ∙ (ap (λ (o : Object). system.answer o other) so.object ∙ sym may.1))
+          ∙ ap (λ (s : At). system.machine.goes_on s (Outcome.Replied reply)) (sym early.is) in
           skip (Heard other reply)
           (subst (λ (o : Object). system.after o other ≡ o) so.object
           (subst (λ (r : Request). system.after now.object r ≡ now.object) same vain.stays))
           (notes_stay at sized)
-          (IsOneWait (subst (λ (s : At). AreOneWait system Goes s (at_of system now pid))
-          (ap (λ (r : Reply). system.machine.goes_on (woken system (at_of system now pid))
-          (Outcome.Replied r))
-          (ap (λ (r : Request). system.answer now.object r) same
-          ∙ (ap (λ (o : Object). system.answer o other) so.object ∙ sym may.1))
-          ∙ ap (λ (s : At). system.machine.goes_on s (Outcome.Replied reply)) (sym early.is))
-          vain.waits))
-      in_vain request Woken early asks vain may =
+          (IsOneWait (subst (λ (s : At). AreOneWait system Goes s (at_of system now pid)) comes
+          vain.waits)
+          (subst (λ (s : At). Rests (at_of system now pid) → Rests s) comes rests))
+      in_vain request Woken early asks vain rests may =
           absurd (let is = sym asks ∙ (ap system.machine.does (sym early.is) ∙ may.2) in cc)
-      in_vain request (Noted set) early asks vain may =
+      in_vain request (Noted set) early asks vain rests may =
           absurd (let is = sym asks ∙ (ap system.machine.does (sym early.is) ∙ may.2) in cc)
-      in_vain request (Refused why) early asks vain may =
+      in_vain request (Refused why) early asks vain rests may =
           absurd (let is = sym asks ∙ (ap system.machine.does (sym early.is) ∙ may.2) in cc)
-      in_vain request Went early asks vain may =
+      in_vain request Went early asks vain rests may =
           absurd (let is = sym asks ∙ (ap system.machine.does (sym early.is) ∙ may.2) in cc)
-      in_vain request (Returned set) early asks vain may =
+      in_vain request (Returned set) early asks vain rests may =
           absurd (let is = sym asks ∙ (ap system.machine.does (sym early.is) ∙ may) in cc)
-      in_vain request (Posted to set) early asks vain may =
+      in_vain request (Posted to set) early asks vain rests may =
           absurd (let is = sym asks ∙ (ap system.machine.does (sym early.is) ∙ may) in cc)
-      in_vain request (Drained set) early asks vain may =
+      in_vain request (Drained set) early asks vain rests may =
           absurd (let is = sym asks ∙ (ap system.machine.does (sym early.is) ∙ may.0) in cc)
 
     -- any move
@@ -397,22 +407,25 @@ module _ {At Request Reply Out Object : Type 0} (system : System At Request Repl
         strict_at = at_of system (coarse_of system so.moves) pid
 
         of : (early : IsEarly (at_of system at pid) strict_at)
-            → AsksAgain system Goes (coarse_of system so.moves).object strict_at
+            → AsksAgainAtRest system Goes Rests (coarse_of system so.moves).object strict_at
             → Strictly (after at grain)
         of early asks = comes asks.comes
           where
             comes : Goes (coarse_of system so.moves).object strict_at
-                ⊎ AsksInVain system Goes (coarse_of system so.moves).object strict_at asks.request
+                ⊎ (AsksInVain system Goes (coarse_of system so.moves).object strict_at asks.request
+                × (Rests strict_at → Rests (system.machine.goes_on (woken system strict_at)
+                (Outcome.Replied (system.answer (coarse_of system so.moves).object
+                asks.request)))))
                 → Strictly (after at grain)
             comes (inl goes) =
                 let caught = catch_up so early goes in
                 same_step caught.0 grain caught.1 may unrefused heard
-            comes (inr vain) = in_vain so asks.request grain early asks.asks vain may
+            comes (inr vain) = in_vain so asks.request grain early asks.asks vain.0 vain.1 may
 
         by : Fits (at_of system at pid) strict_at
             → Strictly (after at grain)
         by (IsSame same) = same_step so grain same may unrefused heard
-        by (IsOneWait one) = asleep_step so grain one may unrefused
+        by (IsOneWait one alike) = asleep_step so grain one may unrefused
         by (WasEarly early) =
             of early (again so.moves so.all pid early.rendez early.number low early.sleeps)
 
@@ -490,36 +503,40 @@ module _ {At Request Reply Out Object : Type 0} (system : System At Request Repl
         by (IsSame same) (inr on) =
             inr (waits on.rendez on.number (sym (ap system.machine.does same) ∙ on.does)
             (λ o goes. subst (Goes o) (sym same) goes) on)
-        by (IsOneWait one) (inl ends) = absurd (not_over _ one.rendez one.number one.sleeps ends)
-        by (IsOneWait one) (inr on) =
+        by (IsOneWait one alike) (inl ends) =
+            absurd (not_over _ one.rendez one.number one.sleeps ends)
+        by (IsOneWait one alike) (inr on) =
             inr (waits one.rendez one.other_number one.other_sleeps one.go on)
         by (WasEarly early) (inl ends) = absurd (subst HasEnded (asks_on early).1 ends)
         by (WasEarly early) (inr on) =
             absurd (let is = sym (asks_on early).1 ∙ on.does in cc)
 
-    over_back : HasEnded (system.machine.does (at_of system last pid))
-        → HasEnded (system.machine.does (at_of system at pid))
-    over_back ends = by (so.states pid)
+    -- a process that rests in the strict run rests in the other, where it is stuck there
+    rest_back : HasEnded (system.machine.does (at_of system at pid)) ⊎ WaitsBy system Goes at pid
+        → Rests (at_of system last pid) → Rests (at_of system at pid)
+    rest_back stuck rests = by (so.states pid) stuck
       where
         by : Fits (at_of system at pid) (at_of system last pid)
-            → HasEnded (system.machine.does (at_of system at pid))
-        by (IsSame same) = subst (λ (s : At). HasEnded (system.machine.does s)) (sym same) ends
-        by (IsOneWait one) =
-            absurd (not_over _ one.rendez one.other_number one.other_sleeps ends)
-        by (WasEarly early) = absurd (not_over _ early.rendez early.number early.sleeps ends)
+            → HasEnded (system.machine.does (at_of system at pid)) ⊎ WaitsBy system Goes at pid
+            → Rests (at_of system at pid)
+        by (IsSame same) on = subst Rests (sym same) rests
+        by (IsOneWait one alike) on = alike rests
+        by (WasEarly early) (inl ends) = absurd (subst HasEnded (asks_on early).1 ends)
+        by (WasEarly early) (inr on) =
+            absurd (let is = sym (asks_on early).1 ∙ on.does in cc)
 
   -- runs with waits that end too early may be left out
-  all_ends : NeverStuckSo system Comes Goes
+  all_rest : SuchStuckAtRest system Comes Goes Rests
       → (moves : List (Move Request Reply)) → AreMoves system moves → AreUnrefused system moves
       → AreHeardSo Comes moves
       → IsObjectStuck system Goes (coarse_of system moves)
-      → HaveEndedAt system (coarse_of system moves)
-  all_ends never moves all unrefused heard stuck =
+      → RestIn system Rests (coarse_of system moves)
+  all_rest never moves all unrefused heard stuck =
       let so = (strictly_after moves all unrefused heard).0 in
       let at = coarse_of system moves in
       let ended = never so.moves so.all so.unrefused so.strict so.heard
       (λ pid low. stuck_so at so pid low (stuck pid low)) in
-      λ pid low. over_back at so pid low (ended pid low)
+      λ pid low. rest_back at so pid low (stuck pid low) (ended pid low)
 
   -- a run has the replies of its moves
   sleep_heard : (said : Answer) → IsHeardSo Comes (slept_grain system said)
@@ -573,16 +590,17 @@ module _ {At Request Reply Out Object : Type 0} (system : System At Request Repl
       (heard_in past asked.0)
 
 -- and so may refused sleeps
-pub such_ends_hold : {At Request Reply Out Object : Type 0}
+pub such_rests_hold : {At Request Reply Out Object : Type 0}
     (system : System At Request Reply Out Object) (Goes : Object → At → Type 0)
-    (Comes : Request → Reply → Type 0) → SuchEndsHold system Comes Goes
-such_ends_hold system Goes Comes apart below due again never run of asked stopped pid low =
+    (Rests : At → Type 0) (Comes : Request → Reply → Type 0)
+    → SuchRestsHold system Comes Goes Rests
+such_rests_hold system Goes Rests Comes apart below due again never run of asked stopped pid low =
     let fine = fine_run system run of in
     let moves = moves_of system run in
     let unrefused = no_sleep_is_refused system apart below run of in
-    subst (λ x. HasEnded (system.machine.does x)) (fine.coarse.states pid)
-    (all_ends system Goes Comes again never moves fine.are unrefused
-    (heard_in system Goes Comes again run asked)
+    subst Rests (fine.coarse.states pid)
+    (all_rest system Goes Rests Comes again never moves fine.are unrefused
+    (heard_in system Goes Rests Comes again run asked)
     (λ p there. by moves fine.are (is_stuck system run of stopped) p there
     (is_stuck system run of stopped p there)) pid low)
   where
@@ -613,10 +631,40 @@ all_asked : {Request Reply : Type 0} (run : List (Step Request Reply))
 all_asked [] = tt
 all_asked (step ∷ past) = (all_asked past, any_reply step.act)
 
--- so no run deadlocks if none does in which waits end in time
+-- so wherever a run has stopped each process rests, if it does where waits end in time
+pub strict_rests_hold : {At Request Reply Out Object : Type 0}
+    (system : System At Request Reply Out Object) (Goes : Object → At → Type 0)
+    (Rests : At → Type 0) → StrictRestsHold system Goes Rests
+strict_rests_hold system Goes Rests apart below due again never run of =
+    such_rests_hold system Goes Rests (λ request reply. ⊤) apart below due again
+    (λ moves all unrefused strict heard. never moves all unrefused strict) run of (all_asked run)
+
+-- who sleeps is not over, and so no wait rests in that sense
+module _ {At Request Reply Out Object : Type 0} (system : System At Request Reply Out Object)
+    (Goes : Object → At → Type 0) where
+  over_at : (object : Object) (at : At) (rendez : RendezId) (number : ℕ)
+      → system.machine.does at ≡ Next.Sleep rendez number → AsksAgain system Goes object at
+      → AsksAgainAtRest system Goes (IsOver system) object at
+  over_at object at rendez number does asks =
+      record { request = asks.request; asks = asks.asks; comes = by asks.comes }
+    where
+      by : Goes object at ⊎ AsksInVain system Goes object at asks.request
+          → Goes object at
+          ⊎ (AsksInVain system Goes object at asks.request
+          × (IsOver system at → IsOver system (system.machine.goes_on (woken system at)
+          (Outcome.Replied (system.answer object asks.request)))))
+      by (inl goes) = inl goes
+      by (inr vain) = inr (vain, λ over. absurd (subst HasEnded does over))
+
+  over_alike : WaitsAskAgain system Goes → WaitsAskAtRest system Goes (IsOver system)
+  over_alike again moves all pid rendez number low does =
+      over_at (coarse_of system moves).object (at_of system (coarse_of system moves) pid) rendez
+      number does (again moves all pid rendez number low does)
+
+-- and no run deadlocks if none does
 pub strict_ends_hold : {At Request Reply Out Object : Type 0}
     (system : System At Request Reply Out Object) (Goes : Object → At → Type 0)
     → StrictEndsHold system Goes
-strict_ends_hold system Goes apart below due again never run of =
-    such_ends_hold system Goes (λ request reply. ⊤) apart below due again
-    (λ moves all unrefused strict heard. never moves all unrefused strict) run of (all_asked run)
+strict_ends_hold system Goes apart below due again never =
+    strict_rests_hold system Goes (IsOver system) apart below due (over_alike system Goes again)
+    never

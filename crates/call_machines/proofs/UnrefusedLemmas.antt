@@ -21,10 +21,9 @@ use Rattle.sleep_core.proofs.SleepPlaceLemmas.{words_agree_in_runs}
 use Rattle.schedules.specs.Position.{is_idle}
 use Rattle.schedules.specs.Program.{event_in, proc}
 use Rattle.schedules.specs.declared.call.Call.TheVariants as core
-use Rattle.call_machines.specs.Ends.{HasEnded}
 use Rattle.call_machines.specs.Grain.{Grain, event_grain, grain_of, moves_of, with_grain}
 use Rattle.call_machines.specs.GrainEnds.{AreApart, AreBelowTop, AreUnrefused, IsUnrefused}
-use Rattle.call_machines.specs.GrainEnds.{NoSleepIsRefused, SleepsAfter, UnrefusedEndsHold}
+use Rattle.call_machines.specs.GrainEnds.{NoSleepIsRefused, SleepsAfter, UnrefusedRestsHold}
 use Rattle.call_machines.specs.Machine.{Next}
 use Rattle.call_machines.specs.Runs.{own_in}
 use Rattle.call_machines.specs.Runs.{Act, IsAnswered, IsNext, IsOfCalls, Step, System, event_for}
@@ -336,9 +335,9 @@ module _ {At Request Reply Out Object : Type 0} (system : System At Request Repl
       (no_sleep_is_refused apart below past (front_of system step past of))
 
   -- and a verdict on moves without refusals is of all runs
-  pub unrefused_ends_hold : UnrefusedEndsHold system
-  unrefused_ends_hold apart below never run of stopped pid low =
+  pub unrefused_rests_hold : (Rests : At → Type 0) → UnrefusedRestsHold system Rests
+  unrefused_rests_hold Rests apart below never run of stopped pid low =
       let fine = fine_run system run of in
-      subst (λ x. HasEnded (system.machine.does x)) (fine.coarse.states pid)
+      subst Rests (fine.coarse.states pid)
       (never (moves_of system run) fine.are (no_sleep_is_refused apart below run of)
       (is_stuck system run of stopped) pid low)

@@ -22,8 +22,10 @@ use Rattle.call_machines.specs.StrictRuns.{MayLoosely}
 use Rattle.call_machines.specs.Grain.Grain.{Drained, Heard, Noted, Posted, Refused, Returned, Went}
 use Rattle.call_machines.specs.Grain.Grain.{Woken}
 use Rattle.call_machines.specs.GrainEnds.{AreApart, AreUnrefused, SleepsAfter}
+use Rattle.call_machines.specs.Ends.{IsOver, RestAfter}
 use Rattle.call_machines.specs.Replies.{AreAskedSo, AreHeardSo}
 use Rattle.call_machines.specs.Machine.{Next, Outcome, next_with, outcome_with}
+use Rattle.call_machines.specs.Programs.{rests_at}
 use Rattle.call_machines.specs.Programs.{ComesTo, EachBegins, Program, ProgramState, goes_in_call}
 use Rattle.call_machines.specs.Programs.{list_program, program_does, program_goes_on}
 use Rattle.call_machines.specs.Programs.{program_system, with_call}
@@ -35,7 +37,7 @@ use Rattle.call_machines.specs.WaitTables.{AllowsNoMore, Keeps, does, goes_on}
 use Rattle.call_machines.specs.WaitTables.WaitState.{Asking, Begun, Leaving, Over, Returning, Waits}
 use Rattle.call_machines.specs.WholeCalls.{IsThereFor, events_of}
 use Rattle.call_machines.proofs.WorkedLatch.{LatchCall, LatchReply, LatchState, asked}
-use Rattle.call_machines.proofs.WorkedLatch.{asleep, latch, latch_of}
+use Rattle.call_machines.proofs.WorkedLatch.{asleep, latch, latch_of, lone}
 use Rattle.call_machines.proofs.WorkedLatch.{latch_after, latch_answer, means, means_late, proc}
 use Rattle.call_machines.proofs.WorkedLatch.{rendez, wait_table}
 use Rattle.call_machines.proofs.WorkedLatch.LatchCall.{Look, Set}
@@ -562,6 +564,31 @@ hears_another_name = refl
 took_the_same : outcome_with {Reply = ℕ} suc (Outcome.Took (only Alarm))
     ≡ Outcome.Took (only Alarm)
 took_the_same = refl
+
+-- ---- who rests
+
+rests_where_it_is_served : rests_at {At = LatchState} {Place = ℕ} (λ place. true) (In 0 Setting)
+    ≡ true
+rests_where_it_is_served = refl
+
+rests_nowhere_else : rests_at {At = LatchState} {Place = ℕ} (λ place. false) (In 0 Setting)
+    ≡ false
+rests_nowhere_else = refl
+
+rests_when_it_has_ended : rests_at {At = LatchState} {Place = ℕ} (λ place. false) Ended ≡ true
+rests_when_it_has_ended = refl
+
+-- who waits for a latch that nobody sets may rest
+abbrev Waits_for_ever : LatchState → Type 0
+Waits_for_ever (Waiting (Waits number)) = ⊤
+Waits_for_ever other = ⊥
+
+lone_rests : RestAfter lone Waits_for_ever asleep
+lone_rests zero low = tt
+lone_rests (suc pid) low = let one : suc pid < 1 = low in absurd (omega arith)
+
+but_it_is_not_over : RestAfter lone (IsOver lone) asleep → ⊥
+but_it_is_not_over rest = rest 0 (omega arith)
 
 -- ---- what an object lets go on
 

@@ -1,18 +1,19 @@
 //! What holds of every run of the library's calls, whatever the machines and the object are. Each
 //! law is a function that does nothing: its contract is the law.
 ghost use Rattle.std.specs.Prelude.{◌≡◌, Bool, true};
-ghost use Rattle.call_machines.specs.Ends.{EndsHold};
+ghost use Rattle.call_machines.specs.Ends.{EndsHold, RestsHold};
 ghost use Rattle.call_machines.specs.Grain.{RunsAreMoves};
 ghost use Rattle.call_machines.specs.GrainEnds.{
   CoarseEndsHold,
   NoSleepIsRefused,
   ObjectEndsHold,
   UnrefusedEndsHold,
+  UnrefusedRestsHold,
 };
-ghost use Rattle.call_machines.specs.Replies.{SuchEndsHold};
+ghost use Rattle.call_machines.specs.Replies.{SuchRestsHold};
 ghost use Rattle.call_machines.specs.Runs.{System};
 ghost use Rattle.call_machines.specs.Schedules.{RunsAreSchedules, SchedulesAreRuns};
-ghost use Rattle.call_machines.specs.StrictRuns.{StrictEndsHold};
+ghost use Rattle.call_machines.specs.StrictRuns.{StrictEndsHold, StrictRestsHold};
 ghost use Rattle.call_machines.specs.WaitTables.{WaitTable, WaitsArePlays};
 ghost use Rattle.call_machines.specs.WholeCalls.{CallsArePlayed};
 
@@ -23,9 +24,12 @@ pub fn both_ways<A, Q, R, O, T>()
     ensures schedules { (system : System A Q R O T) → RunsAreSchedules system }
 {}
 
-/// If no schedule deadlocks, no run of the calls does.
+/// If no schedule deadlocks, no run of the calls does. More generally, if each process rests
+/// wherever a schedule is stuck, it does where a run of the calls has stopped.
 pub fn ends_hold<A, Q, R, O, T>()
-    ensures { (system : System A Q R O T) → EndsHold system }
+    ensures ends { (system : System A Q R O T) → EndsHold system }
+    ensures rests { (system : System A Q R O T) → (rests : A → Bool)
+        → RestsHold system (λ at. rests at ≡ true) }
 {}
 
 /// What laws of calls name of a device: what it does to the seats of its callers.
@@ -77,6 +81,8 @@ pub fn coarse_ends_hold<A, Q, R, O, T>()
     ensures ends { (system : System A Q R O T) → CoarseEndsHold system }
     ensures refusals { (system : System A Q R O T) → NoSleepIsRefused system }
     ensures unrefused { (system : System A Q R O T) → UnrefusedEndsHold system }
+    ensures rests { (system : System A Q R O T) → (rests : A → Bool)
+        → UnrefusedRestsHold system (λ at. rests at ≡ true) }
 {}
 
 /// Where an object's wakeups are due, the object alone says which calls may go on.
@@ -86,12 +92,15 @@ pub fn object_ends_hold<A, Q, R, O, T>()
 {}
 
 /// Where besides each call that sleeps asks again, and in vain where it was woken too early, runs
-/// may be left out in which a wait ends well before the object lets its call go on. So also of runs
-/// in which each reply is such a one.
+/// may be left out in which a wait ends well before the object lets its call go on. So also where
+/// processes may rest, and of runs in which each reply is such a one.
 pub fn strict_ends_hold<A, Q, R, O, T>()
     ensures all { (system : System A Q R O T) → (goes : T → A → Bool)
         → StrictEndsHold system (λ object at. goes object at ≡ true) }
-    ensures such { (system : System A Q R O T) → (goes : T → A → Bool) → (comes : Q → R → Bool)
-        → SuchEndsHold system (λ request reply. comes request reply ≡ true)
-        (λ object at. goes object at ≡ true) }
+    ensures rests { (system : System A Q R O T) → (goes : T → A → Bool) → (rests : A → Bool)
+        → StrictRestsHold system (λ object at. goes object at ≡ true) (λ at. rests at ≡ true) }
+    ensures such { (system : System A Q R O T) → (goes : T → A → Bool) → (rests : A → Bool)
+        → (comes : Q → R → Bool)
+        → SuchRestsHold system (λ request reply. comes request reply ≡ true)
+        (λ object at. goes object at ≡ true) (λ at. rests at ≡ true) }
 {}

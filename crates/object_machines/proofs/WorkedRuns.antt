@@ -1,7 +1,7 @@
 -- Runs of calls at two semaphores and a tag space, computed: a wait at one object that ends by a
 -- call at it, and deadlocks across two objects.
 use Rattle.std.proofs.Common.{◌≡◌, ◌≢◌, ◌≤◌, ◌<◌, inl, inr, ℕ, zero, suc, true, false, Option, Some}
-use Rattle.std.proofs.Common.{None, List, [], ◌∷◌, Ok, Result, refl, arith}
+use Rattle.std.proofs.Common.{Bool, None, List, [], ◌∷◌, Ok, Result, refl, arith}
 use Rattle.std.proofs.lemmas.Bool.{false≢true}
 use Rattle.kernel_lock.specs.declared.locked.Locked.{Locked}
 use Rattle.kernel_lock.specs.Seats.{limit_of, opening_of}
@@ -43,10 +43,15 @@ use Rattle.space_machines.specs.MeetMachine.MeetState.{Calls}
 use Rattle.object_machines.specs.ObjectCalls.{ObjectCall, ObjectOut, ObjectReply}
 use Rattle.object_machines.specs.ObjectCalls.{ObjectRequest, ObjectStates, Objects, object_after}
 use Rattle.object_machines.specs.ObjectCalls.{object_answer, object_does, object_goes_on}
-use Rattle.object_machines.specs.ObjectCalls.ObjectCall.{AtSema, InSpace}
-use Rattle.object_machines.specs.ObjectCalls.ObjectOut.{FromSema}
-use Rattle.object_machines.specs.ObjectCalls.ObjectReply.{BySema, BySpace}
-use Rattle.object_machines.specs.ObjectCalls.ObjectRequest.{OfSema, OfSpace}
+use Rattle.object_machines.specs.ObjectCalls.ObjectCall.{Alone, AtSema, Chooses, InSpace}
+use Rattle.object_machines.specs.ObjectCalls.ObjectOut.{FromChoice, FromSema}
+use Rattle.object_machines.specs.ObjectCalls.ObjectReply.{BySema, BySpace, Chosen}
+use Rattle.object_machines.specs.ObjectCalls.ObjectRequest.{AtChoices, OfSema, OfSpace}
+use Rattle.object_machines.specs.ObjectCalls.{object_calls}
+use Rattle.object_machines.specs.OwnCalls.ChoiceState.{Choosing, HasChosen}
+use Rattle.object_machines.specs.OwnCalls.OwnState.{Done, Draining, Posting}
+use Rattle.sync_base.specs.declared.note.Note.TheVariants.{Interrupt}
+use Rattle.sync_base.specs.NoteSet.{no_notes, only}
 use Rattle.object_machines.specs.ObjectEnds.{is_unworn}
 use Rattle.object_machines.specs.ObjectEnds.{AreApart, AreInOneWorld, BeginsBy, GoesOn, IsSemaHere}
 use Rattle.object_machines.specs.ObjectEnds.{calls_at, goes_on, sema_row, space_row}
@@ -83,6 +88,7 @@ module _ (lock : Locked SemaState SemaCall SemaReply)
             ∷ [];
         none = record { sema = first_sema; value = 0 };
         space = space;
+        choices = true ∷ false ∷ [];
         procs = 2;
         rendez = 6;
       }
@@ -228,6 +234,83 @@ module _ (lock : Locked SemaState SemaCall SemaReply)
   it_ends : (position_of (it_looks 0) (0 ∷ [])).states ≡ Ended ∷ Ended ∷ []
   it_ends = refl
 
+  -- ---- calls that a process makes alone
+
+  -- it takes its notes and then chooses: it takes a unit, or ends
+  abbrev own_call : ℕ → ObjectCall
+  own_call zero = Alone Draining
+  own_call (suc zero) = Chooses Choosing
+  own_call place = take 0 0
+
+  abbrev goes_by_choice : ℕ → Result ObjectOut Fault → Option ℕ
+  goes_by_choice zero answer = Some 1
+  goes_by_choice (suc zero) (Ok (FromChoice true)) = Some 2
+  goes_by_choice place answer = None
+
+  abbrev chooses_with : List Bool
+      → System (ProgramState ℕ ObjectCall) ObjectRequest ObjectReply Unit ObjectStates
+  chooses_with choices =
+      calls_at (record (objects_with 1 0) { choices = choices })
+      (record { call = own_call; next = goes_by_choice }) (Some 0 ∷ None ∷ [])
+
+  it_takes_a_unit : (position_of (chooses_with (true ∷ [])) (0 ∷ 0 ∷ [])).states
+      ≡ In 2 (take 0 0) ∷ Ended ∷ []
+  it_takes_a_unit = refl
+
+  or_it_ends : (position_of (chooses_with (false ∷ [])) (0 ∷ 0 ∷ [])).states
+      ≡ Ended ∷ Ended ∷ []
+  or_it_ends = refl
+
+  -- where no choice is left it goes the other way
+  none_is_left : (position_of (chooses_with []) (0 ∷ 0 ∷ [])).states ≡ Ended ∷ Ended ∷ []
+  none_is_left = refl
+
+  a_choice_is_used_up : (position_of (chooses_with (true ∷ false ∷ [])) (0 ∷ 0 ∷ [])).object.choices
+      ≡ false ∷ []
+  a_choice_is_used_up = refl
+
+  -- the first posts a note to the second, which takes it
+  abbrev posts_and_drains : ℕ → ObjectCall
+  posts_and_drains zero = Alone (Posting (record { 0 = 1 }) (only Interrupt))
+  posts_and_drains place = Alone Draining
+
+  abbrev note_is_taken : System (ProgramState ℕ ObjectCall) ObjectRequest ObjectReply Unit
+      ObjectStates
+  note_is_taken =
+      calls_at (objects_with 1 0)
+      (record { call = posts_and_drains; next = λ place answer. None }) (Some 0 ∷ Some 1 ∷ [])
+
+  both_are_done : (position_of note_is_taken (1 ∷ 0 ∷ [])).states ≡ Ended ∷ Ended ∷ []
+  both_are_done = refl
+
+  its_note_is_pending :
+      (coarse_of note_is_taken (moves_of note_is_taken (run_of note_is_taken (0 ∷ [])))).notes
+      ≡ no_notes ∷ only Interrupt ∷ []
+  its_note_is_pending = refl
+
+  then_it_is_taken :
+      (coarse_of note_is_taken (moves_of note_is_taken (run_of note_is_taken (1 ∷ 0 ∷ [])))).notes
+      ≡ no_notes ∷ no_notes ∷ []
+  then_it_is_taken = refl
+
+  -- such a call begins, and is not over
+  a_drain_begins : BeginsBy (objects_with 1 0) 0 (Alone Draining)
+  a_drain_begins = tt
+
+  one_that_is_over : BeginsBy (objects_with 1 0) 0 (Alone Done) → ⊥
+  one_that_is_over begins = begins
+
+  has_chosen_before : BeginsBy (objects_with 1 0) 0 (Chooses (HasChosen true)) → ⊥
+  has_chosen_before begins = let is = begins in cc
+
+  who_drains_never_waits : goes_on (objects_with 1 0) (object_calls (objects_with 1 0)).opening
+      (Alone Draining) ≡ false
+  who_drains_never_waits = refl
+
+  who_chooses_never_waits : goes_on (objects_with 1 0) (object_calls (objects_with 1 0)).opening
+      (Chooses Choosing) ≡ false
+  who_chooses_never_waits = refl
+
   -- ---- row by row
 
   abbrev objects : Objects
@@ -238,6 +321,7 @@ module _ (lock : Locked SemaState SemaCall SemaReply)
       record {
         semas = units.opening 1 2 0 ∷ units.opening 0 2 0 ∷ [];
         space = object.opening 2 0;
+        choices = true ∷ false ∷ [];
       }
 
   -- a request is answered by the semaphore that it names
@@ -366,6 +450,9 @@ meetings_are_worn = refl
 a_meeting_wears_nothing : is_unworn (OfSpace (Call 0 (record { 0 = 7 }) 10))
     (BySpace (group.Met 20 1 3)) ≡ true
 a_meeting_wears_nothing = refl
+
+a_choice_wears_nothing : is_unworn AtChoices (Chosen true) ≡ true
+a_choice_wears_nothing = refl
 
 -- two rows that have a Rendez in common are not apart
 two_share_one : AreApart (record { first = 0; size = 2 }) (record { first = 1; size = 2 }) → ⊥

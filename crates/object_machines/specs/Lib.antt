@@ -1,2 +1,3 @@
 pub mod ObjectCalls
 pub mod ObjectEnds
+pub mod OwnCalls

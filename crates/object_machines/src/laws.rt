@@ -2,7 +2,7 @@
 //! contract is the law.
 ghost use Rattle.object_machines.specs.ObjectEnds.{
   ObjectsEndHold,
-  UnwornEndHold,
+  UnwornRestHold,
   WaitsAskInVain,
   WakeupsAreDueAll,
 };
@@ -13,12 +13,13 @@ use semaphore::laws::{states_are_sound, who_is_granted_is_released};
 /// woken before that asks in vain. So no run of the calls deadlocks, if in each run at the grain of
 /// calls that comes to where each process has ended or waits without either all have ended. Runs
 /// need not be looked at in which a sleep is refused, or a wait ends well before its object lets
-/// it. The same holds of the runs in which nothing is worn out.
+/// it. The same holds of the runs in which nothing is worn out, and where processes may rest at
+/// some places.
 pub fn objects_end<P>()
     ensures due { WakeupsAreDueAll P }
     ensures vain { WaitsAskInVain P }
     ensures ends { ObjectsEndHold P }
-    ensures unworn { UnwornEndHold P }
+    ensures unworn { UnwornRestHold P }
 {
     who_is_granted_is_released();
     states_are_sound();
