@@ -185,10 +185,12 @@ module _ (sema : Sema) (number : ℕ) where
   left None old new at so =
       (replied_alone reply.Gone, refl, promised true false Leave reply.Gone old new at refl so)
 
-  keeps : Keeps (acquire_table number) (acquiring sema) (Serves sema) (IsAt false) (IsAt true)
+  -- so the table of an acquire keeps its promise
+  pub keeps : Keeps (acquire_table number) (acquiring sema) (Serves sema) (IsAt false) (IsAt true)
   keeps = record { begins = begins; asks = asks; leaves = leaves }
 
-  no_more : AllowsNoMore (acquire_table number) (acquiring sema) (Serves sema) (IsAt false)
+  -- and its promise allows no more than the table
+  pub no_more : AllowsNoMore (acquire_table number) (acquiring sema) (Serves sema) (IsAt false)
       (IsAt true)
   no_more = record { begun = begun; asked = asked; left = left }
 
