@@ -2,6 +2,7 @@
 import sys
 
 from explored.answers import STATUS, difference, run
+from explored.comments import commented
 from explored.machine import Machine
 from explored.searching import LIMIT, search
 
@@ -33,6 +34,14 @@ def agrees(name, program, found):
 
 
 def is_fault(name, script, number):
+    """Fails where the line with this number is not at fault; also with comments, which move it."""
+    line_is_fault(name, script, number)
+    with_comments, numbers = commented(script)
+    if number <= len(numbers):
+        line_is_fault(name, with_comments, numbers[number - 1])
+
+
+def line_is_fault(name, script, number):
     said = run(script)
     if said != (STATUS["fault"], "", f"p9explore: script fault at line {number}\n"):
         fail(f"{name}: line {number} is a fault, and p9explore says {said} of this script:\n{script}")
