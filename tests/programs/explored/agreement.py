@@ -1,4 +1,5 @@
 """A run of p9explore beside the search: what fails where the two differ."""
+import re
 import sys
 
 from explored.answers import STATUS, difference, run
@@ -43,5 +44,5 @@ def is_fault(name, script, number):
 
 def line_is_fault(name, script, number):
     said = run(script)
-    if said != (STATUS["fault"], "", f"p9explore: script fault at line {number}\n"):
+    if said[:2] != (STATUS["fault"], "") or not re.fullmatch(f"p9explore: script fault at line {number}: [^\n]+\n", said[2]):
         fail(f"{name}: line {number} is a fault, and p9explore says {said} of this script:\n{script}")
