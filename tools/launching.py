@@ -106,7 +106,7 @@ def compile_aside(out):
 
 
 def compile_to(path, log, lock):
-    say(f"{NAME}: compiling it, which takes about a minute the first time")
+    say(f"{NAME}: compiling it, which takes half a minute to two minutes the first time")
     status = run_builder([NAME, "try", path], begin_log(log), lock, lambda _: None)
     for it in text_of(log).splitlines():
         # what else it says is of the run by which it was tried

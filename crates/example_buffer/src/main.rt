@@ -8,7 +8,6 @@ use plan9::{
     fork,
 };
 use std::alloc::Global;
-use std::io;
 use std::sync::Wait;
 use std::sync::atomic::{AtomicU64, Ordering};
 use std::thread::{Threads, scope, scope_env};
@@ -124,9 +123,8 @@ fn run<R: Threads + Wait + Now + Sync>(rt: &R, alloc: Global) -> Result<u64, Fau
     seat(rt, &mut free, &mut items, &mut clock, started)
 }
 
-fn main(rt: HostRuntime) -> io::Result<()> {
-    match run(&rt, rt.alloc()) {
-        Ok(sum) => println!(rt; "the sum of the items is {sum}"),
-        Err(fault) => println!(rt; "the buffer failed: {fault}"),
-    }
+fn main(rt: HostRuntime) -> anyhow::Result<()> {
+    let sum = run(&rt, rt.alloc())?;
+    println!(rt; "the sum of the items is {sum}")?;
+    Ok(())
 }

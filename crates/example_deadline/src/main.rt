@@ -123,12 +123,8 @@ fn run<R: Threads + Wait + Now + Sync>(rt: &R, alloc: Global) -> Result<[Outcome
     open(rt, alloc, &mut objects, &mut started)
 }
 
-fn main(rt: HostRuntime) -> std::io::Result<()> {
-    let outcomes = match run(&rt, rt.alloc()) {
-        Ok(outcomes) => outcomes,
-        Err(fault) => return println!(rt; "the desk failed: {fault}"),
-    };
-    for outcome in outcomes {
+fn main(rt: HostRuntime) -> anyhow::Result<()> {
+    for outcome in run(&rt, rt.alloc())? {
         match outcome {
             Ok(()) => println!(rt; "served")?,
             Err(fault) => println!(rt; "{}", FaultText(fault))?,

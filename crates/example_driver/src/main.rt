@@ -204,9 +204,8 @@ fn run<R: Threads + Wait + Print + Sync>(rt: &R, alloc: Global) -> Result<u64, F
     open(rt, &kernel, kernel.start(start))
 }
 
-fn main(rt: HostRuntime) -> io::Result<()> {
-    match run(&rt, rt.alloc()) {
-        Ok(copied) => println!(rt; "{copied} of {WANTED} blocks were copied"),
-        Err(fault) => println!(rt; "the driver failed: {fault}"),
-    }
+fn main(rt: HostRuntime) -> anyhow::Result<()> {
+    let copied = run(&rt, rt.alloc())?;
+    println!(rt; "{copied} of {WANTED} blocks were copied")?;
+    Ok(())
 }

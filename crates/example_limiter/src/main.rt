@@ -100,14 +100,10 @@ fn run<R: Threads + Wait + Clock + Sync>(rt: &R, alloc: Global) -> Result<u64, F
     run_all(rt, alloc, &mut units, started)
 }
 
-fn main(rt: HostRuntime) -> std::io::Result<()> {
-    let all = REQUESTS * CLIENTS;
-    match run(&rt, rt.alloc()) {
-        Ok(took) => {
-            let least = all - u64::from(BURST);
-            let kept = if took >= least { "kept" } else { "not kept" };
-            println!(rt; "{all} requests in {least} milliseconds or more: {kept}")
-        }
-        Err(fault) => println!(rt; "the limiter failed: {fault}"),
-    }
+fn main(rt: HostRuntime) -> anyhow::Result<()> {
+    let (all, took) = (REQUESTS * CLIENTS, run(&rt, rt.alloc())?);
+    let least = all - u64::from(BURST);
+    let kept = if took >= least { "kept" } else { "not kept" };
+    println!(rt; "{all} requests in {least} milliseconds or more: {kept}")?;
+    Ok(())
 }

@@ -90,9 +90,8 @@ fn run<R: Threads + Wait + Sync>(rt: &R, alloc: Global) -> Result<Vec<Granted>, 
     run_all(rt, alloc, &mut space, &mut started)
 }
 
-fn main(rt: HostRuntime) -> std::io::Result<()> {
-    match run(&rt, rt.alloc()) {
-        Ok(granted) => println!(rt; "columns granted: {granted:?}"),
-        Err(fault) => println!(rt; "the windows failed: {fault}"),
-    }
+fn main(rt: HostRuntime) -> anyhow::Result<()> {
+    let granted = run(&rt, rt.alloc())?;
+    println!(rt; "columns granted: {granted:?}")?;
+    Ok(())
 }

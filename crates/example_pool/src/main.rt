@@ -4,7 +4,6 @@
 
 use plan9::{Fault, Kernel, OpenedKernel, Proc, Seat, Semaphore, Started, forks};
 use std::alloc::Global;
-use std::io;
 use std::sync::Wait;
 use std::thread::{Threads, map_vec};
 
@@ -71,9 +70,8 @@ fn run<R: Threads + Wait + Sync>(rt: &R, alloc: Global) -> Result<u64, Fault> {
     work_all(rt, alloc, &mut machines, started)
 }
 
-fn main(rt: HostRuntime) -> io::Result<()> {
-    match run(&rt, rt.alloc()) {
-        Ok(pieces) => println!(rt; "{WORKERS} workers made {pieces} pieces"),
-        Err(fault) => println!(rt; "the pool failed: {fault}"),
-    }
+fn main(rt: HostRuntime) -> anyhow::Result<()> {
+    let pieces = run(&rt, rt.alloc())?;
+    println!(rt; "{WORKERS} workers made {pieces} pieces")?;
+    Ok(())
 }

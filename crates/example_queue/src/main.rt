@@ -120,9 +120,8 @@ fn run<R: Threads + Wait + Sync>(rt: &R, alloc: Global) -> Result<u64, Fault> {
     run_all(rt, alloc, &mut First { ends, ended: 0 }, &mut started)
 }
 
-fn main(rt: HostRuntime) -> std::io::Result<()> {
-    match run(&rt, rt.alloc()) {
-        Ok(sum) => println!(rt; "the numbers of the jobs add up to {sum}"),
-        Err(fault) => println!(rt; "the queue failed: {fault}"),
-    }
+fn main(rt: HostRuntime) -> anyhow::Result<()> {
+    let sum = run(&rt, rt.alloc())?;
+    println!(rt; "the numbers of the jobs add up to {sum}")?;
+    Ok(())
 }

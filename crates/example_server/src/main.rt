@@ -190,9 +190,8 @@ fn run<R: Threads + Wait + Sync>(rt: &R, alloc: Global) -> Result<Vec<u64>, Faul
     open(rt, alloc, &mut queue, pipes.ends(start), &mut started)
 }
 
-fn main(rt: HostRuntime) -> std::io::Result<()> {
-    match run(&rt, rt.alloc()) {
-        Ok(sums) => println!(rt; "the sums of the clients that stayed are {sums:?}"),
-        Err(fault) => println!(rt; "the server failed: {fault}"),
-    }
+fn main(rt: HostRuntime) -> anyhow::Result<()> {
+    let sums = run(&rt, rt.alloc())?;
+    println!(rt; "the sums of the clients that stayed are {sums:?}")?;
+    Ok(())
 }

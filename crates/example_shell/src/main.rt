@@ -9,7 +9,6 @@ use plan9::{
     Fault, Flags, Kernel, Note, NoteSet, OpenedKernel, Pid, Proc, RendezId, Roster, Started, forks,
 };
 use std::alloc::Global;
-use std::io;
 use std::sync::Wait;
 use std::thread::{Threads, join, map_vec};
 
@@ -136,11 +135,8 @@ fn count(ended: &[Ended], job: u64, had_work: bool) -> usize {
     ended.iter().filter(is_so).count()
 }
 
-fn main(rt: HostRuntime) -> io::Result<()> {
-    let Outcome { noted, ended } = match run(&rt, rt.alloc()) {
-        Ok(outcome) => outcome,
-        Err(fault) => return println!(rt; "the shell failed: {fault}"),
-    };
+fn main(rt: HostRuntime) -> anyhow::Result<()> {
+    let Outcome { noted, ended } = run(&rt, rt.alloc())?;
     println!(rt; "the note reached {noted} processes")?;
     for job in 1..=JOBS {
         let (stopped, served) = (count(&ended, job, false), count(&ended, job, true));

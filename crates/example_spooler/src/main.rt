@@ -5,9 +5,9 @@
 #![tactic(auto)]
 
 use plan9::{
-    Clock, Ended, Fault, FaultText, Job, Member, Messages, Note, NoteSet, OpenedKernel, Pid, Plan,
-    Proc, QueueEnds, RealTime, Received, RendezId, Roster, Seat, Semaphore, SendCalls, Space,
-    Started, Tag, Team, Told, Watch, Worker, forks,
+    Clock, Ended, Fault, Job, Member, Messages, Note, NoteSet, OpenedKernel, Pid, Plan, Proc,
+    QueueEnds, RealTime, Received, RendezId, Roster, Seat, Semaphore, SendCalls, Space, Started,
+    Tag, Team, Told, Watch, Worker, forks,
 };
 use std::alloc::Global;
 use std::sync::Wait;
@@ -24,6 +24,9 @@ const PRINTERS: u64 = 2;
 const OPERATOR: u64 = SPOOLER + PRINTERS + 1;
 
 const TICKER: u64 = OPERATOR + 1;
+
+/// How many there are, the supervisor too: each has a place at each object.
+const SEATS: u64 = TICKER + 1;
 
 /// How many documents a client has. Its first has one page, and each one more.
 const DOCUMENTS: u64 = 20;
@@ -58,33 +61,88 @@ impl Count {
 
 type Outcome = Result<Count, Fault>;
 
+/// One of each: the objects, or a place at each.
+#[derive(Drop)]
+struct Each<Q: Drop, S: Drop, M: Drop, W: Drop> {
+    jobs: Q,
+    printing: Q,
+    free: S,
+    window: M,
+    clock: W,
+}
+
+/// All of them, or the first fault.
+fn all<Q: Drop, S: Drop, M: Drop, W: Drop>(
+    jobs: Result<Q, Fault>,
+    printing: Result<Q, Fault>,
+    free: Result<S, Fault>,
+    window: Result<M, Fault>,
+    clock: Result<W, Fault>,
+) -> Result<Each<Q, S, M, W>, Fault> {
+    Ok(Each {
+        jobs: jobs?,
+        printing: printing?,
+        free: free?,
+        window: window?,
+        clock: clock?,
+    })
+}
+
+type Objects = Each<Messages<Document>, Semaphore, Space, Clock>;
+
+fn objects(alloc: Global, roster: &mut Roster<'_>) -> Result<Objects, Fault> {
+    all(
+        Messages::new(alloc, roster, 4, 2 * SEATS),
+        Messages::new(alloc, roster, 1, 2 * SEATS),
+        Semaphore::new(alloc, roster, PRINTERS as u32, SEATS),
+        Space::new(alloc, roster, SEATS),
+        Clock::new(alloc, SEATS),
+    )
+}
+
 type Ends<'o> = QueueEnds<'o, Document>;
 
-/// A place at each object.
+fn split<'o, R: Wait>(rt: &R, ends: &mut Ends<'o>) -> Result<Ends<'o>, Fault> {
+    let sender = ends.sender.split(rt)?;
+    let receiver = ends.receiver.split(rt)?;
+    Ok(QueueEnds { sender, receiver })
+}
+
+/// A place at each object, the time, and where the operator is called.
 #[derive(Drop)]
 struct Places<'o> {
-    jobs: Ends<'o>,
-    printing: Ends<'o>,
-    free: Seat<'o>,
-    window: Member<'o>,
-    watch: Watch<'o>,
+    at: Each<Ends<'o>, Seat<'o>, Member<'o>, Watch<'o>>,
     time: &'o RealTime,
     desk: RendezId,
 }
 
-fn split<'o, R: Wait>(rt: &R, ends: &mut Ends<'o>) -> Result<Ends<'o>, Fault> {
-    let (sender, receiver) = (ends.sender.split(rt)?, ends.receiver.split(rt)?);
-    Ok(QueueEnds { sender, receiver })
-}
-
 impl<'o> Places<'o> {
+    fn new<R: Wait>(
+        rt: &R,
+        objects: &'o mut Objects,
+        time: &'o RealTime,
+        desk: RendezId,
+    ) -> Result<Places<'o>, Fault> {
+        let at = all(
+            objects.jobs.ends(rt),
+            objects.printing.ends(rt),
+            objects.free.seat(),
+            objects.window.member(),
+            objects.clock.watch(),
+        )?;
+        Ok(Places { at, time, desk })
+    }
+
     fn split<R: Wait>(&mut self, rt: &R) -> Result<Places<'o>, Fault> {
+        let at = all(
+            split(rt, &mut self.at.jobs),
+            split(rt, &mut self.at.printing),
+            self.at.free.split(rt),
+            self.at.window.split(rt),
+            self.at.clock.split(rt),
+        )?;
         Ok(Places {
-            jobs: split(rt, &mut self.jobs)?,
-            printing: split(rt, &mut self.printing)?,
-            free: self.free.split(rt)?,
-            window: self.window.split(rt)?,
-            watch: self.watch.split(rt)?,
+            at,
             time: self.time,
             desk: self.desk,
         })
@@ -93,12 +151,19 @@ impl<'o> Places<'o> {
     /// A client submits all its documents, one after the other, and waits for each, until it is
     /// cancelled. Both waits for a document have one deadline.
     fn submit<R: Wait + Now>(&mut self, rt: &R, proc: &mut Proc<'_>) -> Outcome {
-        let (mut count, client) = (Count::default(), proc.pid());
-        let (jobs, window, watch) = (&mut self.jobs.sender, &mut self.window, &mut self.watch);
+        let at = &mut self.at;
+        let client = proc.pid();
+        let tag = Tag(client.0);
+        let mut count = Count::default();
         for pages in 1..=DOCUMENTS {
-            let (document, now) = (Document { client, pages }, self.time.now(rt));
-            jobs.send_within(rt, proc, watch, now, PATIENCE, document)?;
-            match window.rendezvous_within(rt, proc, watch, now, PATIENCE, Tag(client.0), 0) {
+            let now = self.time.now(rt);
+            let document = Document { client, pages };
+            let sender = &mut at.jobs.sender;
+            sender.send_within(rt, proc, &mut at.clock, now, PATIENCE, document)?;
+            match at
+                .window
+                .rendezvous_within(rt, proc, &mut at.clock, now, PATIENCE, tag, 0)
+            {
                 Ok(printed) => count.add(1, printed),
                 Err(Fault::Interrupted(notes)) if notes.has(Note::Interrupt) => break,
                 Err(fault) => return Err(fault),
@@ -112,15 +177,15 @@ impl<'o> Places<'o> {
     fn spool<R: Wait>(&mut self, rt: &R, proc: &mut Proc<'_>) -> Outcome {
         let mut count = Count::default();
         for _ in rt.forever() {
-            let Received::Value(document) = self.jobs.receiver.receive(rt, proc)? else {
+            let Received::Value(document) = self.at.jobs.receiver.receive(rt, proc)? else {
                 break;
             };
             if document == HELD {
                 proc.wakeup(self.desk, 1)?;
                 continue;
             }
-            self.free.acquire(rt, proc)?;
-            self.printing.sender.send(rt, proc, document)?;
+            self.at.free.acquire(rt, proc)?;
+            self.at.printing.sender.send(rt, proc, document)?;
             count.add(1, document.pages);
         }
         Ok(count)
@@ -129,15 +194,18 @@ impl<'o> Places<'o> {
     /// A printer prints each document, meets its client, and is free again, until the hangup. It
     /// waits no longer than a client does, so it goes on if the client has left.
     fn print<R: Wait + Now>(&mut self, rt: &R, proc: &mut Proc<'_>) -> Outcome {
-        let (mut count, window, watch) = (Count::default(), &mut self.window, &mut self.watch);
+        let at = &mut self.at;
+        let mut count = Count::default();
         for _ in rt.forever() {
-            let Received::Value(document) = self.printing.receiver.receive(rt, proc)? else {
+            let Received::Value(document) = at.printing.receiver.receive(rt, proc)? else {
                 break;
             };
-            let (tag, pages, now) = (Tag(document.client.0), document.pages, self.time.now(rt));
-            let _met = window.rendezvous_within(rt, proc, watch, now, PATIENCE, tag, pages);
+            let (tag, pages) = (Tag(document.client.0), document.pages);
+            let now = self.time.now(rt);
+            let (window, clock) = (&mut at.window, &mut at.clock);
+            let _met = window.rendezvous_within(rt, proc, clock, now, PATIENCE, tag, pages);
             count.add(1, pages);
-            self.free.release(rt, proc, 1)?;
+            at.free.release(rt, proc, 1)?;
         }
         Ok(count)
     }
@@ -157,7 +225,7 @@ impl<'o> Places<'o> {
             SPOOLER => self.spool(rt, proc),
             OPERATOR => self.operate(rt, proc),
             TICKER => {
-                let _notes = self.watch.run(rt, proc, &mut self.time.beat(rt));
+                let _notes = self.at.clock.run(rt, proc, &mut self.time.beat(rt));
                 Ok(Count::default())
             }
             pid if pid < SPOOLER => self.submit(rt, proc),
@@ -176,14 +244,14 @@ impl<'o, R: Wait + Now> Job<R> for Places<'o> {
 
 /// The supervisor has the first place at each object, and counts who has ended before the operator.
 #[derive(Drop)]
-struct Supervisor<'o> {
-    places: Places<'o>,
+struct Supervisor<'s, 'o> {
+    places: &'s mut Places<'o>,
     ended: u64,
 }
 
 /// After the clients the spooler is to end. After it the printers are, and after a printer it is,
 /// so that nobody waits for who has gone. After all these the operator and the ticker are to end.
-impl<'o, R: Wait> Told<R> for Supervisor<'o> {
+impl<'s, 'o, R: Wait> Told<R> for Supervisor<'s, 'o> {
     fn told(&mut self, rt: &R, proc: &mut Proc<'_>, number: usize) {
         let pid = (number as u64).saturating_add(1);
         if pid >= OPERATOR {
@@ -191,11 +259,11 @@ impl<'o, R: Wait> Told<R> for Supervisor<'o> {
         }
         self.ended = self.ended.saturating_add(1);
         if self.ended == CLIENTS {
-            let _hung = self.places.jobs.sender.hangup(rt, proc);
+            let _hung = self.places.at.jobs.sender.hangup(rt, proc);
         }
         if pid >= SPOOLER {
-            let _hung = self.places.printing.sender.hangup(rt, proc);
-            let _free = self.places.free.release(rt, proc, 1);
+            let _hung = self.places.at.printing.sender.hangup(rt, proc);
+            let _free = self.places.at.free.release(rt, proc, 1);
         }
         if self.ended == OPERATOR - 1 {
             let _woken = proc.wakeup(self.places.desk, 1);
@@ -221,77 +289,75 @@ fn sum(ended: &[Ended<'_, Outcome>]) -> Totals {
     Ok([clients, spooler, printers, others])
 }
 
+fn push<T: Drop>(list: &mut Vec<T>, value: T) -> Result<(), Fault> {
+    Ok(list.push(value)?)
+}
+
+/// Each child, with its places.
+fn workers_of<'o, 'k, R: Wait>(
+    rt: &R,
+    alloc: Global,
+    places: &mut Places<'o>,
+    children: Vec<Proc<'k>>,
+) -> Result<Vec<Worker<'k, Places<'o>>>, Fault> {
+    let mut workers = Vec::new(alloc);
+    for proc in children {
+        let job = places.split(rt)?;
+        push(&mut workers, Worker { proc, job })?;
+    }
+    Ok(workers)
+}
+
+/// Starts a team of all children of the first process.
 fn run_all<R: Threads + Wait + Now + Sync>(
     rt: &R,
     alloc: Global,
-    supervisor: &mut Supervisor<'_>,
+    places: &mut Places<'_>,
     started: &mut Started<'_>,
 ) -> Totals {
     let Started { roster, proc } = started;
     let mut team = Team::new(roster, TICKER)?;
-    let mut workers = Vec::new(alloc);
-    for child in forks(alloc, roster, proc, TICKER)? {
-        let job = supervisor.places.split(rt)?;
-        workers.push(Worker { proc: child, job })?;
-    }
-    sum(&team.run(alloc, rt, proc, workers, supervisor)?)
+    let children = forks(alloc, roster, proc, TICKER)?;
+    let workers = workers_of(rt, alloc, places, children)?;
+    let mut supervisor = Supervisor { places, ended: 0 };
+    sum(&team.run(alloc, rt, proc, workers, &mut supervisor)?)
 }
 
-#[derive(Drop)]
-struct Objects {
-    jobs: Messages<Document>,
-    printing: Messages<Document>,
-    free: Semaphore,
-    window: Space,
-    clock: Clock,
-    time: RealTime,
-}
-
-fn equip<R: Now>(rt: &R, alloc: Global, roster: &mut Roster<'_>) -> Result<Objects, Fault> {
-    let seats = TICKER + 1;
-    Ok(Objects {
-        jobs: Messages::new(alloc, roster, 4, 2 * seats)?,
-        printing: Messages::new(alloc, roster, 1, 2 * seats)?,
-        free: Semaphore::new(alloc, roster, PRINTERS as u32, seats)?,
-        window: Space::new(alloc, roster, seats)?,
-        clock: Clock::new(alloc, seats)?,
-        time: RealTime::new(rt),
-    })
-}
-
-fn open<R: Threads + Wait + Now + Sync>(
+/// Takes the first places, and lends them on.
+fn take_places<R: Threads + Wait + Now + Sync>(
     rt: &R,
     alloc: Global,
     objects: &mut Objects,
     started: &mut Started<'_>,
 ) -> Totals {
-    let places = Places {
-        jobs: objects.jobs.ends(rt)?,
-        printing: objects.printing.ends(rt)?,
-        free: objects.free.seat()?,
-        window: objects.window.member()?,
-        watch: objects.clock.watch()?,
-        time: &objects.time,
-        desk: started.roster.rendez()?,
-    };
-    run_all(rt, alloc, &mut Supervisor { places, ended: 0 }, started)
+    let time = RealTime::new(rt);
+    let desk = started.roster.rendez()?;
+    let mut places = Places::new(rt, objects, &time, desk)?;
+    run_all(rt, alloc, &mut places, started)
+}
+
+/// Makes the objects, and lends them on.
+fn open<R: Threads + Wait + Now + Sync>(
+    rt: &R,
+    alloc: Global,
+    started: &mut Started<'_>,
+) -> Totals {
+    let mut objects = objects(alloc, &mut started.roster)?;
+    take_places(rt, alloc, &mut objects, started)
+}
+
+fn plan() -> Plan {
+    let plan = Plan::new().queue(2 * SEATS).queue(2 * SEATS).rendez(1);
+    plan.semaphore(SEATS).space(SEATS).team(TICKER)
 }
 
 fn run<R: Threads + Wait + Now + Sync>(rt: &R, alloc: Global) -> Totals {
-    let seats = TICKER + 1;
-    let plan = Plan::new().queue(2 * seats).queue(2 * seats).rendez(1);
-    let plan = plan.semaphore(seats).space(seats).team(TICKER);
-    let OpenedKernel { kernel, start } = plan.build(alloc)?;
-    let mut started = kernel.start(start);
-    let mut objects = equip(rt, alloc, &mut started.roster)?;
-    open(rt, alloc, &mut objects, &mut started)
+    let OpenedKernel { kernel, start } = plan().build(alloc)?;
+    open(rt, alloc, &mut kernel.start(start))
 }
 
-fn main(rt: HostRuntime) -> std::io::Result<()> {
-    let counts = match run(&rt, rt.alloc()) {
-        Ok(counts) => counts,
-        Err(fault) => return println!(rt; "the spooler failed: {}", FaultText(fault)),
-    };
+fn main(rt: HostRuntime) -> anyhow::Result<()> {
+    let counts = run(&rt, rt.alloc())?;
     let did = ["answered", "handed on", "printed", "cancelled"];
     for (did, Count { documents, pages }) in did.iter().zip(counts) {
         println!(rt; "documents {did}: {documents}, of {pages} pages")?;

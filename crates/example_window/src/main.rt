@@ -148,11 +148,8 @@ fn run<R: Threads + Wait + Sync>(rt: &R, alloc: Global) -> Result<Window, Fault>
     run_all(rt, alloc, ends, started)
 }
 
-fn main(rt: HostRuntime) -> std::io::Result<()> {
-    match run(&rt, rt.alloc()) {
-        Ok(Window { typed, mouse, size }) => {
-            println!(rt; "typed '{typed}', mouse at {mouse:?}, size {size:?}")
-        }
-        Err(fault) => println!(rt; "the window failed: {fault}"),
-    }
+fn main(rt: HostRuntime) -> anyhow::Result<()> {
+    let Window { typed, mouse, size } = run(&rt, rt.alloc())?;
+    println!(rt; "typed '{typed}', mouse at {mouse:?}, size {size:?}")?;
+    Ok(())
 }

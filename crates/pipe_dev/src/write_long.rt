@@ -27,10 +27,13 @@ impl<'p> WriteEnd<'p> {
         bytes: &[u8],
     ) -> Long
         // None of its writes is above the atomic size, and it is refused as `NoRendez` just where
-        // the process is of a kernel that has too few Rendez for the direction.
+        // the process is of a kernel that has too few Rendez for the direction: then before its
+        // first write.
         ensures too_big { result.fault ≢ Some TooBig }
         ensures no_rendez { (result.fault ≡ Some NoRendez)
             ↔ ¬ OwnsRow proc.old.words self.old.row }
+        ensures refused { ¬ OwnsRow proc.old.words self.old.row → IsLongRefusedAs NoRendez
+            (writer_of self.old proc.old) result (writer_of self.new proc.new) }
 
         // It wrote so, up to the first write that was not accepted.
         ensures wrote { WritesLong (call_of self.old bytes.now)

@@ -221,8 +221,8 @@ puts_back_adds : (set : NoteSet) (before after : Process) → PutsBackAny set be
     → (lay_down after ≡ lay_down before) × (drained after ≡ drained before)
 puts_back_adds set before after (inl none) = (ap lay_down none.1, ap drained none.1)
 puts_back_adds set before after (inr back) =
-    let lies = ap lay_down back in
-    let drains = ap drained back in
+    let lies = ap lay_down back.1 in
+    let drains = ap drained back.1 in
     (omega (arith, lies), omega (arith, drains))
 
 keeps_adds : (ending : WaitEnd Unit) (expired : Bool) (others : NoteSet)

@@ -1,5 +1,5 @@
 -- The note of a tick is pending at the process of a timer that expired, or was taken since.
-use Rattle.std.proofs.Common.{◌≡◌, ◌≢◌, ◌⊎◌, inl, inr, ℕ, nat_lt, eqb, Bool, true, false}
+use Rattle.std.proofs.Common.{◌≡◌, ◌≢◌, ◌⊎◌, ◌<◌, inl, inr, ℕ, nat_lt, eqb, Bool, true, false}
 use Rattle.std.proofs.Common.{if◌then◌else◌, List, [], ◌∷◌, ◌++◌, Some, None, refl}
 use Rattle.std.proofs.Common.{ap, subst, arith, sym, ◌∙◌}
 use Rattle.std.proofs.lemmas.Bool.{eqb-true}
@@ -200,7 +200,8 @@ ticking_tells sizes s shows timers kernel now count before after ticks gone =
     each_told sizes s shows after.process gone timers kernel now ticks.ended before ticks.last
     ticks.expires (by ticks.stops)
   where
-    by : FindsNone timers now ticks.last after ⊎ ((count ≡ timers.procs) × (after ≡ ticks.last))
+    by : ((count < timers.procs) × FindsNone timers now ticks.last after)
+        ⊎ ((count ≡ timers.procs) × (after ≡ ticks.last))
         → IsPast ticks.last.process.trace after.process.trace
-    by (inl none) = rw none.idle (past_refl ticks.last.process.trace)
+    by (inl none) = rw none.1.idle (past_refl ticks.last.process.trace)
     by (inr all) = rw all.1 (past_refl ticks.last.process.trace)

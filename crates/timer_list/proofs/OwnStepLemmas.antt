@@ -69,7 +69,7 @@ puts_back_more : (set : NoteSet) (before after : Process) → PutsBackAny set be
     → Was before after
 puts_back_more set before after (inl none) = rw none.1 (past_refl before.trace)
 puts_back_more set before after (inr back) =
-    rw back
+    rw back.1
     (step_more before before (Note (pid_in before) set) answer.Noted (past_refl before.trace))
 
 keeps_more : {Out : Type 0} (expired : Bool) (others : NoteSet) (ending : WaitEnd Out)

@@ -119,10 +119,20 @@ module _ (watch : Timers) (kernel now : ℕ) (before after : Point TimerSeat) wh
       → (ticks : Ticks watch kernel now 2 before after) → ticks.last ≡ before → ⊥
   stops_early none three ticks same = by ticks.stops
     where
-      by : ¬ (FindsNone watch now ticks.last after
+      by : ¬ (((2 < watch.procs) × FindsNone watch now ticks.last after)
           ⊎ ((2 ≡ watch.procs) × (after ≡ ticks.last)))
-      by (inl found) = none (subst (λ p. FindsNone watch now p after) same found)
+      by (inl found) = none (subst (λ p. FindsNone watch now p after) same found.1)
       by (inr many) = let two = many.0 in omega (arith, two, three)
+
+  -- it asks once more though as many timers have expired as there are
+  asks_once_more : watch.procs ≡ 2
+      → (ticks : Ticks watch kernel now 2 before after) → after ≢ ticks.last → ⊥
+  asks_once_more two ticks other = by ticks.stops
+    where
+      by : ¬ (((2 < watch.procs) × FindsNone watch now ticks.last after)
+          ⊎ ((2 ≡ watch.procs) × (after ≡ ticks.last)))
+      by (inl found) = let many = found.0 in omega (arith, many, two)
+      by (inr all) = other all.1
 
   finds_none_without_asking :
       length (seen_of after.seat.seat) ≡ length (seen_of before.seat.seat)

@@ -2,7 +2,7 @@
 use Rattle.std.proofs.Common.{◌≡◌, ◌≢◌, ℕ, Bool, true, false, Some, None, Result, Ok, Err, inl}
 use Rattle.std.proofs.Common.{inr, refl, sym, ap, ◌∙◌, ◌<◌, arith, length, unwrap_or}
 use Rattle.kernel_lock.specs.Seats.{number_of, opening_of, seen_of}
-use Rattle.rendez_words.specs.Process.{Process}
+use Rattle.rendez_words.specs.Process.{Process, pid_in}
 use Rattle.rendez_words.specs.Steps.{notes}
 use Rattle.sync_base.specs.declared.fault.Fault.{Fault}
 use Rattle.sync_base.specs.declared.fault.Fault.TheVariants as fault
@@ -85,7 +85,17 @@ module _ (before : Process) where
     where
       by : ¬ PutsBackAny (only Alarm) before before
       by (inl none) = let clash : true ≡ false = ap (λ s. holds s Alarm) none.0 in cc
-      by (inr back) = let steps = ap steps_of back in omega (arith, steps)
+      by (inr back) = let steps = ap steps_of back.1 in omega (arith, steps)
+
+  -- a call to which no notes came posts none
+  posts_no_notes :
+      ¬ Kept false no_notes (Answered (Ok tt)) (Ok tt) before
+      (notes before (pid_in before) no_notes)
+  posts_no_notes kept = by kept.1
+    where
+      by : ¬ PutsBackAny no_notes before (notes before (pid_in before) no_notes)
+      by (inl none) = let steps = ap steps_of none.1 in omega (arith, steps)
+      by (inr back) = back.0 refl
 
   answers_another_end : ¬ Kept false no_notes (Answered (Ok tt)) (Err fault.Worn) before before
   answers_another_end kept = let clash : Err fault.Worn ≡ Ok tt = kept.0 in cc

@@ -1,5 +1,5 @@
 -- What tick promises. Own: tsemacquire in semacquire(2) has a clock of its own.
-use Rattle.std.specs.Prelude.{◌≡◌, ◌⊎◌, ◌≤◌, ℕ, nat_lt, IsTrue, false, List, [], ◌∷◌, length}
+use Rattle.std.specs.Prelude.{◌≡◌, ◌⊎◌, ◌≤◌, ◌<◌, ℕ, nat_lt, IsTrue, false, List, [], ◌∷◌, length}
 use Rattle.rendez_words.specs.Process.{Process}
 use Rattle.rendez_words.specs.Steps.{notes}
 use Rattle.sync_base.specs.declared.ids.Pid.{Pid}
@@ -44,4 +44,5 @@ module _ (timers : Timers) (kernel now : ℕ) where
     pub expires : Expires ended before last
     pub count_is : count ≡ length ended
     pub at_most : count ≤ timers.procs
-    pub stops : FindsNone timers now last after ⊎ ((count ≡ timers.procs) × (after ≡ last))
+    pub stops : ((count < timers.procs) × FindsNone timers now last after)
+        ⊎ ((count ≡ timers.procs) × (after ≡ last))

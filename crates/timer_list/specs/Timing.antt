@@ -89,10 +89,11 @@ pub record AwaitsTick (rendez : RendezId) (expired : Bool) (first last : Awaitin
 abbrev pub without_expired : NoteSet → NoteSet
 without_expired set = record set { expired = false }
 
--- the notes are pending again, all at once, or there are none
+-- there are no notes and nothing is done, or they are pending again, all at once
 abbrev pub PutsBackAny : NoteSet → Process → Process → Type 0
 PutsBackAny set before after =
-    ((set ≡ no_notes) × (after ≡ before)) ⊎ (after ≡ notes before (pid_in before) set)
+    ((set ≡ no_notes) × (after ≡ before))
+    ⊎ ((set ≢ no_notes) × (after ≡ notes before (pid_in before) set))
 
 module _ {Out : Type 0} (expired : Bool) (others : NoteSet) where
   -- notes ended it: it timed out where a tick took its timer and no other note came, and else these

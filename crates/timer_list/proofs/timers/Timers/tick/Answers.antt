@@ -13,7 +13,10 @@ returns-in-None-clause-called g c =
       expires = ticks.expires;
       count_is = ticks.count_is;
       at_most = c.loop-expired.auto.expired-end;
-      stops = inl (record { asks = c.in-None.ensures.asks; idle = refl });
+      stops = inl (
+        (let all = c.loop-expired.auto.expired-end in omega arith),
+        record { asks = c.in-None.ensures.asks; idle = refl },
+      );
     }
 
 pub returns-in-None-clause-seat : goal.returns-in-None-clause-seat
