@@ -463,4 +463,5 @@ def main():
     print("\n".join(Model(Script(sys.stdin.read().splitlines())).text()))
 
 
-main()
+if __name__ == "__main__":
+    main()

@@ -1,7 +1,9 @@
 """A run of p9explore beside the search: what fails where the two differ."""
+import re
 import sys
 
 from explored.answers import STATUS, difference, run
+from explored.comments import commented
 from explored.machine import Machine
 from explored.searching import LIMIT, search
 
@@ -33,6 +35,14 @@ def agrees(name, program, found):
 
 
 def is_fault(name, script, number):
+    """Fails where the line with this number is not at fault; also with comments, which move it."""
+    line_is_fault(name, script, number)
+    with_comments, numbers = commented(script)
+    if number <= len(numbers):
+        line_is_fault(name, with_comments, numbers[number - 1])
+
+
+def line_is_fault(name, script, number):
     said = run(script)
-    if said != (STATUS["fault"], "", f"p9explore: script fault at line {number}\n"):
+    if said[:2] != (STATUS["fault"], "") or not re.fullmatch(f"p9explore: script fault at line {number}: [^\n]+\n", said[2]):
         fail(f"{name}: line {number} is a fault, and p9explore says {said} of this script:\n{script}")

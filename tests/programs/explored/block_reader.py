@@ -1,5 +1,6 @@
 """A script with blocks, comments, and like processes that are declared by one line."""
 from explored.blocks import BlockProgram, Either, Loop, Repeat
+from explored.comments import lines_said
 from explored.program import NAMED, NAMES, place_of_name
 
 # The lines among calls in which `me`, `next` and `prev` are words as others.
@@ -81,7 +82,7 @@ def read_block(lines, names):
 
 def block_program_of(script):
     """The program of a script that has no fault."""
-    first, *lines = [line.split(" ") for line in script.splitlines() if not line.startswith("#")]
+    first, *lines = lines_said(script)
     lines = one_by_one(lines)
     names, bodies = names_of(lines), [[] for _ in range(int(first[1]))]
     start = next(at for at, words in enumerate(lines) if words[0] == "process")

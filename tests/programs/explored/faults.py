@@ -7,20 +7,20 @@ from explored.program import (
 
 NO_BYTES = ["616", "4", "6g", "0x61", "61-", "--", "", "61 61", "00" * (ATOMIC_SIZE + 1)]
 NO_WORLD = ["world 0 1", "world 1025 1", "world 1 0", "world 1 8193", "world 1", "world 1 1 1", "World 1 1", "world 01 1",
-            "world +1 1", "world 1 1\r", "drain", ""]
+            "world +1 1", "world 1 1\r", "drain"]
 NO_DEVICE = ["space 0", "space 1025", "space 1 1", "space", "sema 2147483648 1", "sema 0 0", "sema 0 1025", "sema 1",
              "sema 1 1 1", "pipe 0", "pipe 1025", "pipe 1 Stream", "pipe 1 stream stream", "pipe", "sema 1 8192", "world 1 1",
              "drain", "sleep 0 0", "on end end", "end:", "clock 1", "clock 0", "clock hall", "Clock", "clock ", " clock", "clocks",
              "tick 0", "ticks 0", "sleep_within 0 0 0 0"]
 # Lines that no `on` and no label is like. No label is `nobody`.
 NO_ON = ["on", "on end", "on end nobody nobody", "on End nobody", "On end nobody", "on end 1", "on end 2nd", "on end _a",
-         "on end a.b", "on  end nobody", "on end  nobody", " on end nobody", "on end nobody ", "on end nobody\r", "on end nobody:",
+         "on  end nobody", "on end  nobody", " on end nobody", "on end nobody ", "on end nobody\r", "on end nobody:",
          "on: end nobody", "on ended nobody", "on not-now nobody", "on notnow nobody", "on gone nobody", "on 0 nobody",
          "on nobody end", f"on end {'a' * 33}", f"on interrupted {'a' * 33}", "on interrupted", "on interrupted interrupted nobody"]
 NO_LABEL = ["nobody:", "Nobody:", "nobody", ":", "nobody :", "nobody::", " nobody:", "nobody: ", "nobody:\r", "1:", "2nd:", "_a:",
-            "a.b:", "nobody:nobody", "nobody: drain", f"{'a' * 33}:"]
+            "nobody:nobody", "nobody: drain", f"{'a' * 33}:"]
 NO_CALL = ["sleep 0", "sleep 0 0 0", "Sleep 0 0", "sleep 00 0", "sleep 0 -1", "sleep 0 +1", "sleep  0 0", " drain", "drain ",
-           "drain\r", "drain 0", "# drain", "", "drian", f"sleep 0 {HANGUP}", f"sleep 0 {HANGUP + 1}",
+           "drain\r", "drain 0", "drian", f"sleep 0 {HANGUP}", f"sleep 0 {HANGUP + 1}",
            f"wakeup 0 {HANGUP + 1}", "wakeup 0", "note 0", "note 0 interrupt,interrupt", "note 0 interrupt,",
            "note 0 Interrupt", "note 0 kill", "note 0 -,alarm", "space 1", "sema 1 1", "pipe 1", "pipe 1 stream",
            "world 1 1", "process", "process 0 0", "acquire", "try", "hangup", "end", "end 1", "repeat", "repeat 0",

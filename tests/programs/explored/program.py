@@ -1,6 +1,8 @@
 """A program: its lines, and the Rendez of its devices."""
 import collections
 
+from explored.comments import lines_said
+
 HANGUP, ATOMIC_SIZE, MOST_UNITS = 2**64 - 1, 65536, 2147483647
 LAST_MOMENT, MOST_MS = 2**64 - 1, 2**32 - 1
 MOST_TIMES, MOST_CALLS, MOST_ONS = 1024, 65536, 1024
@@ -204,7 +206,7 @@ def written_out(lines):
 
 def program_of(script):
     """The program of a script that has no fault."""
-    first, *lines = [line.split(" ") for line in script.splitlines()]
+    first, *lines = lines_said(script)
     lines = written_out(lines)
     rendez, devices, calls, pid, names = int(first[2]), [], [[] for _ in range(int(first[1]))], None, {}
     branches = [[] for _ in calls]
