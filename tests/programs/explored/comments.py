@@ -27,4 +27,4 @@ def said_by(line):
 
 def lines_said(script):
     """The lines of a script that say something, as their words."""
-    return [said.split(" ") for said in map(said_by, script.split("\n")[:-1]) if said]
+    return [said.split(" ") for said in map(said_by, script.split("\n")) if said]
