@@ -1,11 +1,12 @@
 -- A position in which a process has moved in the tag space, as lines have it.
 use Rattle.std.proofs.Common.{◌≡◌, ◌≢◌, ℕ, ◌<◌, ◌==◌, Bool, if◌then◌else◌, true, false, List}
-use Rattle.std.proofs.Common.{length, refl, sym, ap, ◌∙◌, subst, arith}
+use Rattle.std.proofs.Common.{Option, Some, None, length, refl, sym, ap, ◌∙◌, subst, arith}
 use Rattle.std.specs.Prelude.{slice_index}
 use Rattle.std.proofs.lemmas.Bool.Decides.{nat_tests}
 use Rattle.sync_base.specs.declared.note.NoteSet.{NoteSet}
 use Rattle.semaphore.specs.declared.sema_object.Stage.TheVariants as stage
 use Rattle.semaphore.specs.Units.{stage_of}
+use Rattle.semaphore.specs.WaitQueue.{stands_in}
 use Rattle.tag_space.specs.declared.place.CallState.TheVariants.{Idle}
 use Rattle.tag_space.specs.declared.place.Place.{Place}
 use Rattle.tag_space.specs.GroupObject.{place_of, waiter_of}
@@ -20,6 +21,12 @@ use Rattle.explored_calls.proofs.Fits.{Fits, IsPhase, View, granted_in, line_of,
 use Rattle.explored_calls.proofs.Fits.{stepped, waits_at, waits_in_space}
 use Rattle.explored_calls.proofs.Running.{Phase, Running}
 use Rattle.explored_calls.proofs.SpaceFacts.{AtMostOne}
+
+-- who stands in the line of a tag is the one who waits with it
+pub stands_alone : (found : Option ℕ) (pid : ℕ) → stands_in (line_of found) pid ≡ true
+    → found ≡ Some pid
+stands_alone None pid stands = cc
+stands_alone (Some one) pid stands = ap Some (grind (arith, nat_tests))
 
 -- the objects, where the space has become this
 abbrev pub with_space : ObjectStates → List Place → ObjectStates

@@ -1,6 +1,6 @@
 -- The moves of a rendezvous are followed by the explorer.
 use Rattle.std.proofs.Common.{◌≡◌, ◌≢◌, ◌⊎◌, inl, inr, ℕ, ◌+◌, ◌<◌, ◌==◌, Bool, if◌then◌else◌}
-use Rattle.std.proofs.Common.{true, false, Option, Some, None, List, [], ◌∷◌, ◌++◌, length, take}
+use Rattle.std.proofs.Common.{true, false, Some, None, List, [], ◌∷◌, ◌++◌, length, take}
 use Rattle.std.proofs.Common.{drop, refl, sym, ap, ◌∙◌, subst, arith, set, Ok, Err}
 use Rattle.std.specs.Prelude.{slice_get}
 use Rattle.std.proofs.lemmas.Bool.Decides.{nat_tests}
@@ -42,45 +42,26 @@ use Rattle.object_machines.specs.ObjectCalls.ObjectRequest.{OfSpace}
 use Rattle.object_machines.specs.ObjectEnds.{is_space_unworn}
 use Rattle.explored_calls.specs.LibraryCalls.{IsCovered, Spot, library_program, place_after}
 use Rattle.explored_calls.proofs.Arrivals.{arrived, at_else, at_self, leads, own_arrives}
-use Rattle.explored_calls.proofs.Fits.{Fits, IsPhase, MeetPhase, View, granted_in, line_of, stepped}
-use Rattle.explored_calls.proofs.Fits.{is_meeting, waits_at, waits_in_space}
-use Rattle.explored_calls.proofs.LineLemmas.{stands_taken}
+use Rattle.explored_calls.proofs.Fits.{Fits, IsFollowed, IsPhase, MeetPhase, View, granted_in}
+use Rattle.explored_calls.proofs.Fits.{is_meeting, line_of, stepped, waits_at, waits_in_space}
+use Rattle.explored_calls.proofs.LineLemmas.{left_alone, stands_taken}
 use Rattle.explored_calls.proofs.Lists.{at_one}
 use Rattle.explored_calls.proofs.Queued.{is_for, itself}
-use Rattle.explored_calls.proofs.Running.{Follows, Phase, Running, joined_none, waits_by}
+use Rattle.explored_calls.proofs.Running.{Follows, Phase, Running, in_line_so, joined_none}
+use Rattle.explored_calls.proofs.Running.{waits_by}
 use Rattle.explored_calls.proofs.Running.Phase.{InLine, Is, Noted, Served}
 use Rattle.explored_calls.proofs.RunningSteps
 use Rattle.explored_calls.proofs.RunningSteps.{Begins, goes, goes_is, goes_served, leaving, pending}
 use Rattle.explored_calls.proofs.RunningSteps.{served_phase, serving, waiting, woken}
-use Rattle.explored_calls.proofs.SemaMoves.{IsFollowed}
 use Rattle.explored_calls.proofs.ServedLemmas.{for_partner, served_by, stands_for}
 use Rattle.explored_calls.proofs.SpaceFacts as facts
 use Rattle.explored_calls.proofs.SpaceFacts.{FindsNobody, MeetsWaiter, WaitsAlone, WasMet, WasUnmet}
-use Rattle.explored_calls.proofs.SpaceFacts.{one_tag, one_waits, state_else, state_here}
+use Rattle.explored_calls.proofs.SpaceFacts.{met_waits, one_tag, one_waits, state_else, state_here}
 use Rattle.explored_calls.proofs.SpaceFacts.{waiter_gone, waiter_new, waiter_same, waiter_waits}
 use Rattle.explored_calls.proofs.SpaceFacts.{waits_in}
-use Rattle.explored_calls.proofs.SpaceFits.{OwesAlone, fits_space, out_stays}
-use Rattle.explored_calls.proofs.SpaceFits.{owes_alone, phase_stays, with_space}
+use Rattle.explored_calls.proofs.SpaceFits.{OwesAlone, fits_space, out_stays, owes_alone}
+use Rattle.explored_calls.proofs.SpaceFits.{phase_stays, stands_alone, with_space}
 use Rattle.explored_calls.proofs.WaitSteps
-use Rattle.explored_calls.proofs.WaitSteps.{in_line_so}
-
--- ---- lines of tags
-
--- who stands in the line of a tag is the one who waits with it
-stands_alone : (found : Option ℕ) (pid : ℕ) → stands_in (line_of found) pid ≡ true
-    → found ≡ Some pid
-stands_alone None pid stands = cc
-stands_alone (Some one) pid stands = ap Some (grind (arith, nat_tests))
-
--- and nobody is left there without it
-without_self : (pid : ℕ) → without pid (pid ∷ []) ≡ []
-without_self pid = let self : (pid == pid) ≡ true = grind (arith, nat_tests) in rw self refl
-
--- one that was met waits with no tag
-met_waits : (state : CallState) → is_met state ≡ true → (tag : ℕ) → waits_with tag state ≡ false
-met_waits Idle met tag = refl
-met_waits (Waiting key value) met tag = cc
-met_waits (Met value) met tag = refl
 
 module _ (program : Program) (is_program : IsProgram program) (covered : IsCovered program)
     (given : Spot → ℕ) (objects : Objects) where
@@ -88,8 +69,9 @@ module _ (program : Program) (is_program : IsProgram program) (covered : IsCover
       (fits : Fits program objects v m) (pid : ℕ) (low : pid < procs_of program) (spot : Spot)
       (by : spot.by ≡ pid) (line : Line) (line_is : slice_get program.lines spot.place ≡ Some line)
       (offered : Offered) (made : line.call ≡ call.Rendezvous offered.tag.0 None) where
+    -- the explorer comes to this position
     abbrev Followed : View program objects → Type 0
-    Followed w = IsFollowed program is_program covered given objects w
+    Followed w = IsFollowed program objects w
 
     -- a state of the rendezvous
     abbrev meets_at : MeetState → ProgramState Spot ObjectCall
@@ -108,6 +90,7 @@ module _ (program : Program) (is_program : IsProgram program) (covered : IsCover
     IsSo met at phase =
         MeetPhase met spot.place line.next (want.Partner offered.tag.0) at phase
 
+    -- where a process is after its call was told so
     abbrev gone : ProgramState Spot ObjectCall → Outcome ObjectReply → ProgramState Spot ObjectCall
     gone state came =
         machines.program_goes_on (object_calls objects) (library_program program given) state came
@@ -131,6 +114,7 @@ module _ (program : Program) (is_program : IsProgram program) (covered : IsCover
     member_low : pid < length v.object.space
     member_low = let room = fits.space in omega (arith, low)
 
+    -- where an answer leads the process
     lead : (on : Bool)
         → arrived program is_program covered given objects spot.by
         (place_after on (slice_get program.lines spot.place) spot.place)
@@ -287,19 +271,23 @@ module _ (program : Program) (is_program : IsProgram program) (covered : IsCover
     abbrev rested : List Place
     rested = put v.object.space pid Idle (place_of v.object.space pid).meetings
 
+    -- its own state is idle then
     rests_here : (place_of rested pid).state ≡ Idle
     rests_here =
         state_here v.object.space pid member_low Idle (place_of v.object.space pid).meetings
 
+    -- and those of others stay as they were
     rests_else : (other : ℕ) → other ≢ pid
         → (place_of rested other).state ≡ (place_of v.object.space other).state
     rests_else other far =
         state_else v.object.space pid member_low Idle (place_of v.object.space pid).meetings other
         far
 
+    -- the space has as many members as before
     rests_long : length rested ≡ length v.object.space
     rests_long = length-set v.object.space pid _
 
+    -- and of each tag one waits at most
     rests_apart : facts.AtMostOne rested
     rests_apart =
         one_waits v.object.space pid member_low Idle (place_of v.object.space pid).meetings
@@ -363,8 +351,8 @@ module _ (program : Program) (is_program : IsProgram program) (covered : IsCover
               long = rests_long;
               apart = rests_apart;
               places_else = rests_else;
-              own = own_arrives program is_program covered given objects
-                  (with_space v.object rested) m pid line.next;
+              own = own_arrives program is_program covered given objects m pid
+                  (with_space v.object rested) line.next;
               phases_else = λ other far. sym (at_else pid other (Is line.next) m.phase far);
               notes_own = fits.notes pid low
                   ∙ (sym (joined_none (m.notes pid))
@@ -459,8 +447,8 @@ module _ (program : Program) (is_program : IsProgram program) (covered : IsCover
               long = rests_long;
               apart = rests_apart;
               places_else = rests_else;
-              own = own_arrives program is_program covered given objects
-                  (with_space v.object rested) m pid line.other;
+              own = own_arrives program is_program covered given objects m pid
+                  (with_space v.object rested) line.other;
               phases_else = λ other far. sym (at_else pid other (Is line.other) m.phase far);
               notes_own = fits.notes pid low;
               notes_else = λ other far. refl;
@@ -470,7 +458,7 @@ module _ (program : Program) (is_program : IsProgram program) (covered : IsCover
                   (waiter_waits v.object.space offered.tag.0 pid (waits_there set noted)).1
                   (λ tag. refl) (without pid (m.line (want.Partner offered.tag.0)))
                   (ap (without pid) (fits.tags offered.tag.0 ∙ ap line_of (waits_there set noted))
-                  ∙ without_self pid);
+                  ∙ left_alone pid);
               no_unit = no_unit (Calls (Leaving (fault.Interrupted set))) is;
               out_own = λ out. rests_here;
             }))
@@ -491,7 +479,7 @@ module _ (program : Program) (is_program : IsProgram program) (covered : IsCover
           long = refl;
           apart = fits.apart;
           places_else = λ other far. refl;
-          own = own_arrives program is_program covered given objects v.object m pid line.next;
+          own = own_arrives program is_program covered given objects m pid v.object line.next;
           phases_else = λ other far. sym (at_else pid other (Is line.next) m.phase far);
           notes_own = notes_are
               ∙ (ap (λ (notes : NoteSet). joined notes set) (fits.notes pid low)
@@ -533,6 +521,7 @@ module _ (program : Program) (is_program : IsProgram program) (covered : IsCover
       idle_now : (place_of v.object.space pid).state ≡ Idle
       idle_now = fits.out pid low (ap (waits_in_space program) is)
 
+      -- it is about to make its call
       begins : Begins program m pid spot.place line
       begins = record { low = low; phase_is = phase; line_is = line_is }
 
@@ -609,6 +598,7 @@ module _ (program : Program) (is_program : IsProgram program) (covered : IsCover
         abbrev met_places : List Place
         met_places = put v.object.space found.waiter (Met offered.value) meetings
 
+        -- that one is a member, and does wait with the tag
         waiter_is : (found.waiter < length v.object.space)
             × (waits_in v.object.space offered.tag.0 found.waiter ≡ true)
         waiter_is = waiter_waits v.object.space offered.tag.0 found.waiter found.found
@@ -630,12 +620,14 @@ module _ (program : Program) (is_program : IsProgram program) (covered : IsCover
         abbrev is_first : ℕ → Bool
         is_first other = stands_in (take 1 (m.line (want.Partner offered.tag.0))) other
 
+        -- the first in the line is that one
         first_is : (other : ℕ) → is_first other ≡ true → other ≡ found.waiter
         first_is other first =
             let alone : stands_in (found.waiter ∷ []) other ≡ true =
             sym (ap (λ (l : List ℕ). stands_in (take 1 l) other) line_now) ∙ first in
             grind (arith, nat_tests)
 
+        -- and the places of the others stay
         others_stay : (other : ℕ) → is_first other ≡ false
             → (place_of met_places other).state ≡ (place_of v.object.space other).state
         others_stay other rest =
@@ -690,6 +682,7 @@ module _ (program : Program) (is_program : IsProgram program) (covered : IsCover
                 phase_stays program objects v m fits met_places other (others_stay other rest)
                 (m.phase other) less refl
 
+        -- who did not wait in the space is out of it still
         out_now : (other : ℕ) → other < procs_of program
             → waits_in_space program (v.state other) ≡ false
             → (place_of met_places other).state ≡ Idle
@@ -717,10 +710,12 @@ module _ (program : Program) (is_program : IsProgram program) (covered : IsCover
         served other =
             if is_first other then served_phase program (m.phase other) else m.phase other
 
+        -- the position where it was met, and the process goes on
         abbrev next : Running
         next =
             goes (serving program m (want.Partner offered.tag.0) 1) pid (Served line.next no_notes)
 
+        -- so a call that finds its partner is followed
         meets_now : Followed (moved_to met_places (meets_at (WakesPartner partner_found))
             (v.notes pid))
         meets_now =
