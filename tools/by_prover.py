@@ -102,7 +102,7 @@ class Room:
             self.below[name] = RoomBelow(name, f"{self.folder}/{name}", self.has_kept)
         status, said = self.below[name].check({path.removeprefix(f"../{name}/"): text for path, text in texts.items()}, [])
         if status:
-            raise Unfit(f"{name} itself is not proved with it: {next((it for it in said.splitlines() if 'error' in it), said[-200:])[:200]}")
+            raise Unfit(f"{name} itself is not proved with it: {next((it for it in said.splitlines() if ': error' in it), said[-200:])[:200]}")
         self.words = [it.replace(f"{TOP}/crates/{name}/out/rlib", self.below[name].folder) for it in self.words]
         return {}
 
