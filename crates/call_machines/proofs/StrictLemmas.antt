@@ -10,7 +10,7 @@ use Rattle.sync_base.specs.declared.note.NoteSet.{NoteSet}
 use Rattle.sync_base.specs.NoteSet.{no_notes}
 use Rattle.sleep_core.specs.Table.{has_notes}
 use Rattle.call_machines.specs.Ends.{HasEnded, IsOver}
-use Rattle.call_machines.specs.StrictRuns.{AsksAgainAtRest, StrictRestsHold, WaitsAskAtRest}
+use Rattle.call_machines.specs.StrictRuns.{AsksAgainAtRest, SleepsOn, StrictRestsHold}
 use Rattle.call_machines.specs.Grain.{AreMoves, Coarse, Grain, May, Move, at_of, coarse_of}
 use Rattle.call_machines.specs.Grain.{moved, notes_by, notes_of, object_with, outcome_by}
 use Rattle.call_machines.specs.Grain.Grain.{Drained, Heard, Noted, Posted, Refused, Returned, Went}
@@ -28,7 +28,7 @@ use Rattle.call_machines.specs.Runs.Act.{Asked, Made}
 use Rattle.call_machines.specs.StrictRuns.{AreLooseMoves, AreOneWait, AreStrict}
 use Rattle.call_machines.specs.StrictRuns.{AsksAgain, AsksInVain, MayLoosely}
 use Rattle.call_machines.specs.StrictRuns.{EndsInTime, StrictEndsHold}
-use Rattle.call_machines.specs.StrictRuns.{WaitsAskAgain, woken}
+use Rattle.call_machines.specs.StrictRuns.{WaitsAskAgain, WaitsAskAtRest, woken}
 use Rattle.call_machines.proofs.CoarseLemmas.{loosely}
 use Rattle.call_machines.proofs.GrainEndLemmas.{is_stuck}
 use Rattle.call_machines.proofs.GrainLemmas.{fine_run}
@@ -49,11 +49,13 @@ module _ {At Request Reply Out Object : Type 0} (system : System At Request Repl
     (again : WaitsAskAtRest system Goes Rests) where
   -- ---- the two runs
 
-  -- the strict run still sleeps, where the other was woken without notes
+  -- the strict run still sleeps, where the other was woken without notes, and is to ask
   record IsEarly (at strict : At) : Type 0 where
     rendez : RendezId
     number : ℕ
     sleeps : system.machine.does strict ≡ Next.Sleep rendez number
+    request : Request
+    asks : system.machine.does (woken system strict) ≡ Next.Ask request
     is : at ≡ woken system strict
 
   -- a process is in the same state in both runs, or in two waits of one call, or was woken early
@@ -271,16 +273,35 @@ module _ {At Request Reply Out Object : Type 0} (system : System At Request Repl
           unrefused strict heard
           (IsSame (ap (λ (a : At). system.machine.goes_on a (outcome_by grain)) same))
 
+      -- where a sleep ended well the strict run sleeps on
+      woken_step : (rendez : RendezId) (number : ℕ)
+          → system.machine.does (at_of system now pid) ≡ Next.Sleep rendez number
+          → woken system old ≡ woken system (at_of system now pid) → Strictly (after at Woken)
+      woken_step rendez number sleeps is = by (again so.moves so.all pid rendez number low sleeps)
+        where
+          by : AsksAgainAtRest system Goes Rests now.object (at_of system now pid)
+              ⊎ SleepsOn system Goes Rests (at_of system now pid) → Strictly (after at Woken)
+          by (inl one) =
+              skip Woken refl (notes_stay at sized) (WasEarly (record {
+                rendez = rendez;
+                number = number;
+                sleeps = sleeps;
+                request = one.request;
+                asks = one.asks;
+                is = is;
+              }))
+          by (inr on) =
+              skip Woken refl (notes_stay at sized)
+              (IsOneWait (subst (λ (s : At). AreOneWait system Goes s (at_of system now pid))
+              (sym is) on.waits)
+              (subst (λ (s : At). Rests (at_of system now pid) → Rests s) (sym is) on.rests))
+
       same_step : (grain : Grain Request Reply) → old ≡ at_of system now pid
           → May system at.object (notes_of system at pid) (system.machine.does old) grain
           → IsUnrefused system grain → IsHeardSo Comes grain → Strictly (after at grain)
       same_step Woken same may unrefused heard =
-          skip Woken refl (notes_stay at sized) (WasEarly (record {
-            rendez = may.0;
-            number = may.1;
-            sleeps = ap system.machine.does (sym same) ∙ may.2;
-            is = ap (woken system) same;
-          }))
+          woken_step may.0 may.1 (ap system.machine.does (sym same) ∙ may.2)
+          (ap (woken system) same)
       same_step (Heard request reply) same may unrefused heard =
           same_both _ same may unrefused tt heard
       same_step (Noted set) same may unrefused heard =
@@ -301,12 +322,7 @@ module _ {At Request Reply Out Object : Type 0} (system : System At Request Repl
           → May system at.object (notes_of system at pid) (system.machine.does old) grain
           → IsUnrefused system grain → Strictly (after at grain)
       asleep_step Woken one may unrefused =
-          skip Woken refl (notes_stay at sized) (WasEarly (record {
-            rendez = one.rendez;
-            number = one.other_number;
-            sleeps = one.other_sleeps;
-            is = one.alike (Ok tt);
-          }))
+          woken_step one.rendez one.other_number one.other_sleeps (one.alike (Ok tt))
       asleep_step (Noted set) one may unrefused =
           both (Noted set)
           (may_now (system.machine.does (at_of system now pid)) (Noted set)
@@ -427,7 +443,12 @@ module _ {At Request Reply Out Object : Type 0} (system : System At Request Repl
         by (IsSame same) = same_step so grain same may unrefused heard
         by (IsOneWait one alike) = asleep_step so grain one may unrefused
         by (WasEarly early) =
-            of early (again so.moves so.all pid early.rendez early.number low early.sleeps)
+            either (again so.moves so.all pid early.rendez early.number low early.sleeps)
+          where
+            either : AsksAgainAtRest system Goes Rests (coarse_of system so.moves).object strict_at
+                ⊎ SleepsOn system Goes Rests strict_at → Strictly (after at grain)
+            either (inl asks) = of early asks
+            either (inr on) = absurd (let is = sym early.asks ∙ on.waits.sleeps in cc)
 
   -- ---- all moves
 
@@ -468,9 +489,7 @@ module _ {At Request Reply Out Object : Type 0} (system : System At Request Repl
     -- one that was woken early is not over, and does not sleep
     asks_on : (early : IsEarly (at_of system at pid) (at_of system last pid))
         → (request : Request) × (system.machine.does (at_of system at pid) ≡ Next.Ask request)
-    asks_on early =
-        let asks = again so.moves so.all pid early.rendez early.number low early.sleeps in
-        (asks.request, ap system.machine.does early.is ∙ asks.asks)
+    asks_on early = (early.request, ap system.machine.does early.is ∙ early.asks)
 
     not_over : (does : Next Request Out) (rendez : RendezId) (number : ℕ)
         → does ≡ Next.Sleep rendez number → HasEnded does → ⊥
@@ -658,8 +677,47 @@ module _ {At Request Reply Out Object : Type 0} (system : System At Request Repl
 
   over_alike : WaitsAskAgain system Goes → WaitsAskAtRest system Goes (IsOver system)
   over_alike again moves all pid rendez number low does =
-      over_at (coarse_of system moves).object (at_of system (coarse_of system moves) pid) rendez
-      number does (again moves all pid rendez number low does)
+      inl (over_at (coarse_of system moves).object (at_of system (coarse_of system moves) pid)
+      rendez number does (again moves all pid rendez number low does))
+
+-- and so whatever else may rest
+pub over_at_rest : {At Request Reply Out Object : Type 0}
+    (system : System At Request Reply Out Object) (Goes : Object → At → Type 0)
+    (Rests : At → Type 0) → WaitsAskAtRest system Goes Rests
+    → WaitsAskAtRest system Goes (IsOver system)
+over_at_rest system Goes Rests again moves all pid rendez number low does =
+    by (again moves all pid rendez number low does)
+  where
+    at : Coarse system
+    at = coarse_of system moves
+
+    none : IsOver system (at_of system at pid) → ⊥
+    none over = subst HasEnded does over
+
+    comes : (request : _) → Goes at.object (at_of system at pid)
+        ⊎ (AsksInVain system Goes at.object (at_of system at pid) request
+        × (Rests (at_of system at pid) → Rests (system.machine.goes_on
+        (woken system (at_of system at pid))
+        (Outcome.Replied (system.answer at.object request)))))
+        → Goes at.object (at_of system at pid)
+        ⊎ (AsksInVain system Goes at.object (at_of system at pid) request
+        × (IsOver system (at_of system at pid) → IsOver system (system.machine.goes_on
+        (woken system (at_of system at pid))
+        (Outcome.Replied (system.answer at.object request)))))
+    comes request (inl goes) = inl goes
+    comes request (inr vain) = inr (vain.0, λ over. absurd (none over))
+
+    by : AsksAgainAtRest system Goes Rests at.object (at_of system at pid)
+        ⊎ SleepsOn system Goes Rests (at_of system at pid)
+        → AsksAgainAtRest system Goes (IsOver system) at.object (at_of system at pid)
+        ⊎ SleepsOn system Goes (IsOver system) (at_of system at pid)
+    by (inl asks) =
+        inl (record {
+          request = asks.request;
+          asks = asks.asks;
+          comes = comes asks.request asks.comes;
+        })
+    by (inr on) = inr (record { waits = on.waits; rests = λ over. absurd (none over) })
 
 -- and no run deadlocks if none does
 pub strict_ends_hold : {At Request Reply Out Object : Type 0}
