@@ -1,0 +1,3 @@
+pub mod InnerMoves
+pub mod NoteFacts
+pub mod TimerFacts

@@ -1,0 +1,3 @@
+pub mod NotesKept
+pub mod TimedCalls
+pub mod TimedEnds

@@ -1,0 +1,1 @@
+//! When runs of calls with deadlines and of ticks deadlock.
