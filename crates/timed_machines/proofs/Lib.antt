@@ -1,3 +1,5 @@
 pub mod InnerMoves
+pub mod MoveLemmas
 pub mod NoteFacts
+pub mod PositionLemmas
 pub mod TimerFacts

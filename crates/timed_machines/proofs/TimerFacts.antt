@@ -30,7 +30,7 @@ set_so timers seat timer low =
       sized = length-set timers seat timer;
     }
 
-stays_so : (timers : List Timer) (seat : ℕ) (timer : Timer) → timer_of timers seat ≡ timer
+pub stays_so : (timers : List Timer) (seat : ℕ) (timer : Timer) → timer_of timers seat ≡ timer
     → IsChange timers timers seat timer
 stays_so timers seat timer is =
     record { own = is; others = λ other differs. refl; sized = refl }
