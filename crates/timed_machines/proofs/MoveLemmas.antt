@@ -53,7 +53,7 @@ use Rattle.timed_machines.specs.TimedEnds.{IsItsDeadline, IsToTell, NoteComes}
 use Rattle.timed_machines.specs.TimedEnds.NoteComes.{IsOwed, IsPending}
 use Rattle.timed_machines.proofs.InnerMoves.{as_grain, as_next, failed_as, inner_of, levels_as}
 use Rattle.timed_machines.proofs.InnerMoves.{notes_as, object_as, plain_as, receiver_as, waits_as}
-use Rattle.timed_machines.proofs.InnerMoves.{within_as}
+use Rattle.timed_machines.proofs.InnerMoves.{IsInner, within_as}
 use Rattle.timed_machines.proofs.NoteFacts.{holds_more, holds_other, with_notes_cases}
 use Rattle.timed_machines.proofs.PositionLemmas as positions
 use Rattle.timed_machines.proofs.TimerFacts.{Expires, IsChange, added_so, cancelled_so, expires_so}
@@ -334,3 +334,457 @@ module _ {At Request Reply Out Object : Type 0} (system : System At Request Repl
         (show_of (Until until (Begins at)) is) one.may (subst MayMove one.is may_move) refl
         ((mine_of (Until until (Begins at)) is).0, tt)
         (timer_so (Until until (Begins at)) is) tt))
+
+    -- what may come of a request of the timers
+    asks_timers : (c : TimerCall) → MayDo (Next.Ask (ToTimers c)) grain
+        → grain ≡ Heard (ToTimers c) (FromTimers (timing.answer_to p.object.timers c))
+    asks_timers c may = of grain may
+      where
+        of : (g : positions.TimedGrain system Own Holds) → MayDo (Next.Ask (ToTimers c)) g
+            → g ≡ Heard (ToTimers c) (FromTimers (timing.answer_to p.object.timers c))
+        of (Heard request reply) can =
+            let same : request ≡ ToTimers c = (let is = can.0 in cc) in
+            ap (λ (r : TimedReply Reply). Heard request r) can.1
+            ∙ ap (λ (q : TimedRequest Request). Heard q (timed.answer p.object q)) same
+        of g can =
+            absurd (comes_loosely timed p.object (notes_of timed p m) (Next.Ask (ToTimers c)) g can)
+
+    -- the notes that a request leaves
+    abbrev same_notes : List NoteSet
+    same_notes = slice_set p.notes m (notes_of timed p m)
+
+    same_long : length same_notes ≡ length p.notes
+    same_long = length-set p.notes m (notes_of timed p m)
+
+    -- it sets its timer
+    adds : (until : Deadline) (at : At) (rendez : RendezId) (number : ℕ)
+        → at_of timed p m ≡ Until until (Begins at) → does_at at ≡ Next.Sleep rendez number
+        → MayDo (Next.Ask (ToTimers (Add until.seat until.pid until.moment))) grain
+        → Settles (Next.Ask (ToTimers (Add until.seat until.pid until.moment)))
+        (Until until (Waits at None)) grain
+    adds until at rendez number is sleeps may =
+        subst (λ (g : positions.TimedGrain system Own Holds).
+        Settles (Next.Ask (ToTimers c)) (Until until (Waits at None)) g) (sym heard)
+        (changes (Next.Ask (ToTimers c)) (Until until (Waits at None))
+        (Heard (ToTimers c) (FromTimers (timing.answer_to p.object.timers c)))
+        (timer.Set until.pid until.moment) (subst MayMove heard may_move)
+        (subst (λ (q : ℕ). IsChange p.object.timers (timing.after p.object.timers c) q
+        (timer.Set until.pid until.moment)) seat_is
+        (added_so p.object.timers until.seat until.pid until.moment
+        (subst (λ (q : ℕ). q < length p.object.timers) (sym seat_is)
+        (subst (λ (n : ℕ). m < n) (sym fine.timers_sized) low))
+        (ap (timer_of p.object.timers) seat_is ∙ timer_so (Until until (Begins at)) is)))
+        call (inner_stays same_notes same_long) (show_of (Until until (Begins at)) is)
+        (mine.0, ((record {
+          from = at;
+          times = 0;
+          asleep = (rendez, number, sleeps);
+          comes = refl;
+        }), tt))
+        mine.0.deadline.pid_is tt)
+      where
+        c : TimerCall
+        c = Add until.seat until.pid until.moment
+
+        heard : grain ≡ Heard (ToTimers c) (FromTimers (timing.answer_to p.object.timers c))
+        heard = asks_timers c may
+
+        mine : positions.IsMine system Own Holds m (Until until (Begins at))
+        mine = mine_of (Until until (Begins at)) is
+
+        seat_is : until.seat ≡ m
+        seat_is = mine.0.deadline.seat_is
+
+    begins_any : (until : Deadline) (at : At) → at_of timed p m ≡ Until until (Begins at)
+        → (d : Next Request Out) → does_at at ≡ d
+        → MayDo (next_with (λ request. request) FromCall (begins_with system.machine until d)) grain
+        → Settles (next_with (λ request. request) FromCall (begins_with system.machine until d))
+        (Until until (begins_on system.machine until d at (outcome_by grain))) grain
+    begins_any until at is d d_is may = by d d_is may
+      where
+        inner : (other : Next Request Out) → does_at at ≡ other → MayDo (as_next system other) grain
+            → Settles (as_next system other)
+            (Until until (Begins (goes_within system.machine until at (outcome_by grain)))) grain
+        inner other other_is =
+            subst (λ (n : Next Request Out). MayDo (as_next system n) grain
+            → Settles (as_next system n)
+            (Until until (Begins (goes_within system.machine until at (outcome_by grain)))) grain)
+            other_is (begins_moves until at is)
+
+        by : (other : Next Request Out) → does_at at ≡ other
+            → MayDo (next_with (λ request. request) FromCall
+            (begins_with system.machine until other)) grain
+            → Settles (next_with (λ request. request) FromCall
+            (begins_with system.machine until other))
+            (Until until (begins_on system.machine until other at (outcome_by grain))) grain
+        by (Next.Sleep rendez number) other_is can = adds until at rendez number is other_is can
+        by (Next.Ask request) other_is can = inner (Next.Ask request) other_is can
+        by (Next.Wake rendez level) other_is can = inner (Next.Wake rendez level) other_is can
+        by (Next.Return set) other_is can = inner (Next.Return set) other_is can
+        by (Next.Post to set) other_is can = inner (Next.Post to set) other_is can
+        by Next.Drain other_is can = inner Next.Drain other_is can
+        by (Next.Over answer) other_is can = inner (Next.Over answer) other_is can
+
+    -- ---- a call with a deadline that waits
+
+    -- one step more
+    slept_on : (at : At) (came : Outcome Reply) → positions.HasSlept system Own Holds at
+        → positions.HasSlept system Own Holds (system.machine.goes_on at came)
+    slept_on at came slept =
+        record {
+          from = slept.from;
+          times = suc slept.times;
+          asleep = slept.asleep;
+          comes = record { between = at; before = slept.comes; came = came; is = refl };
+        }
+
+    failed_on : (at : At) (failed : Option Fault) (came : Outcome Reply)
+        → positions.HasFailed system Own Holds failed at
+        → positions.HasFailed system Own Holds failed (system.machine.goes_on at came)
+    failed_on at (Some (fault.Interrupted set)) came ended =
+        record {
+          from = ended.from;
+          times = suc ended.times;
+          asleep = ended.asleep;
+          comes = record { between = at; before = ended.comes; came = came; is = refl };
+        }
+    failed_on at (Some other) came ended = tt
+    failed_on at None came ended = tt
+
+    failed_so : (at : At) (failed : Option Fault) (own : Grain Request Reply)
+        → MayLoosely system p.object.device (notes_of timed p m) (does_at at) own
+        → positions.HasFailed system Own Holds failed at
+        → positions.HasFailed system Own Holds (failed_as system failed own)
+        (system.machine.goes_on at (outcome_by own))
+    failed_so at failed (Heard request reply) may ended =
+        failed_on at failed (Outcome.Replied reply) ended
+    failed_so at failed Went may ended = failed_on at failed Outcome.Went ended
+    failed_so at failed (Returned set) may ended = failed_on at failed Outcome.Went ended
+    failed_so at failed (Posted to set) may ended = failed_on at failed Outcome.Went ended
+    failed_so at failed (Drained set) may ended = failed_on at failed (Outcome.Took set) ended
+    failed_so at failed Woken may ended = tt
+    failed_so at failed (Noted set) may ended =
+        record { from = at; times = 0; asleep = (may.0, may.1, may.2); comes = refl }
+    failed_so at failed (Refused why) may ended = of why may.3
+      where
+        of : (w : Fault) → IsRefusal w
+            → positions.HasFailed system Own Holds (Some w)
+            (system.machine.goes_on at (Outcome.Slept (Err w)))
+        of (fault.Interrupted set) refusal = absurd refusal
+        of w refusal = tt
+
+    -- a call whose sleep the note of a tick ended does not sleep
+    note_awake : (at : At) (failed : Option Fault) → positions.HasFailed system Own Holds failed at
+        → positions.HasNote system Own Holds failed → IsAsleep system.machine at → ⊥
+    note_awake at (Some (fault.Interrupted set)) ended has asleep =
+        keeps.sleeps_no_more ended.from at set ended.times ended.asleep ended.comes asleep
+    note_awake at (Some other) ended has asleep = absurd has
+    note_awake at None ended has asleep = absurd has
+
+    -- where a tick took its timer, the note of that tick has come or comes still
+    told_so : (until : Deadline) (at : At) (failed : Option Fault) (own : Grain Request Reply)
+        → grain ≡ as_grain system own
+        → MayLoosely system p.object.device (notes_of timed p m) (does_at at) own
+        → positions.HasSlept system Own Holds at → positions.HasFailed system Own Holds failed at
+        → (t : Timer)
+        → positions.IsTold system Own Holds p m (Until until (Waits at failed)) t
+        → positions.IsTold system Own Holds
+        (now_at (as_next system (does_at at))
+        (Until until (Waits (system.machine.goes_on at (outcome_by own)) (failed_as system failed
+        own))) grain) m
+        (Until until (Waits (system.machine.goes_on at (outcome_by own)) (failed_as system failed
+        own))) t
+    told_so until at failed own is may slept ended timer.Unset was = tt
+    told_so until at failed own is may slept ended (timer.Set to moment) was = tt
+    told_so until at failed own is may slept ended timer.Expired was = by own is may
+      where
+        Told : Grain Request Reply → Type 0
+        Told g =
+            positions.HasNote system Own Holds (failed_as system failed g)
+            ⊎ NoteComes system
+            (now_at (as_next system (does_at at))
+            (Until until (Waits (system.machine.goes_on at (outcome_by own))
+            (failed_as system failed own))) grain) m
+
+        -- where the move takes no notes
+        on : (g : Grain Request Reply) → grain ≡ as_grain system g
+            → positions.TakesNone system Own Holds p fine m low (as_grain system g)
+            → (positions.HasNote system Own Holds failed
+            → positions.HasNote system Own Holds (failed_as system failed g)) → Told g
+        on g g_is takes has = of was
+          where
+            of : positions.HasNote system Own Holds failed ⊎ NoteComes system p m → Told g
+            of (inl note) = inl (has note)
+            of (inr comes) =
+                inr (positions.comes_on system Own Holds p fine m low grain may_move _ _ m low
+                (inr (subst (positions.TakesNone system Own Holds p fine m low) (sym g_is) takes))
+                comes)
+
+        noted : (set : NoteSet) → set ≡ notes_of timed p m → IsAsleep system.machine at
+            → Told (Noted set)
+        noted set is_all asleep = of was
+          where
+            of : positions.HasNote system Own Holds failed ⊎ NoteComes system p m
+                → Told (Noted set)
+            of (inl note) = absurd (note_awake at failed ended note asleep)
+            of (inr (IsPending has)) = inl (ap (λ (n : NoteSet). holds n Expired) is_all ∙ has)
+            of (inr (IsOwed ticker there tells)) =
+                inr (positions.owed_on system Own Holds p fine m low grain may_move _ _ m ticker
+                low there tells)
+
+        by : (g : Grain Request Reply) → grain ≡ as_grain system g
+            → MayLoosely system p.object.device (notes_of timed p m) (does_at at) g → Told g
+        by (Heard request reply) g_is can = on (Heard request reply) g_is tt (λ note. note)
+        by Went g_is can = on Went g_is tt (λ note. note)
+        by (Returned set) g_is can = on (Returned set) g_is tt (λ note. note)
+        by (Posted to set) g_is can = on (Posted to set) g_is tt (λ note. note)
+        by (Drained set) g_is can =
+            absurd (keeps.takes_none slept.from at slept.times slept.asleep slept.comes can.0)
+        by Woken g_is can =
+            on Woken g_is tt (λ note. absurd (note_awake at failed ended note
+            (can.0, can.1, can.2)))
+        by (Noted set) g_is can = noted set can.4 (can.0, can.1, can.2)
+        by (Refused why) g_is can =
+            on (Refused why) g_is tt (λ note. absurd (note_awake at failed ended note
+            (can.0, can.1, can.2)))
+
+    waits_moves : (until : Deadline) (at : At) (failed : Option Fault)
+        → at_of timed p m ≡ Until until (Waits at failed) → MayDo (as_next system (does_at at)) grain
+        → Settles (as_next system (does_at at))
+        (Until until (waits_on system.machine until at failed (outcome_by grain))) grain
+    waits_moves until at failed is may =
+        subst (λ (g : positions.TimedGrain system Own Holds).
+        Settles (as_next system (does_at at))
+        (Until until (waits_on system.machine until at failed (outcome_by g))) g) (sym one.is)
+        (subst (λ (s : TimedState At Out). Settles (as_next system (does_at at)) (Until until s)
+        (as_grain system one.own)) (sym (waits_as system until at failed one.own))
+        (inner_settles one.own at gone (show_of was is) one.may (subst MayMove one.is may_move)
+        refl
+        (mine.0, (slept_on at (outcome_by one.own) mine.1.0,
+        failed_so at failed one.own one.may mine.1.1))
+        (timer_so was is)
+        (subst (λ (g : positions.TimedGrain system Own Holds).
+        positions.IsTold system Own Holds (now_at (as_next system (does_at at)) gone g) m gone
+        own_timer) one.is
+        (told_so until at failed one.own one.is one.may mine.1.0 mine.1.1 own_timer
+        (told_of was is)))))
+      where
+        was : TimedCall At Out
+        was = Until until (Waits at failed)
+
+        one : IsInner system p.object (notes_of timed p m)
+            (does_at at) grain
+        one = inner_of system p.object (notes_of timed p m) (does_at at) grain may
+
+        gone : TimedCall At Out
+        gone =
+            Until until (Waits (system.machine.goes_on at (outcome_by one.own))
+            (failed_as system failed one.own))
+
+        mine : positions.IsMine system Own Holds m was
+        mine = mine_of was is
+
+    -- ---- it cancels its timer
+
+    module _ (until : Deadline) (at : At) (failed : Option Fault)
+        (is : at_of timed p m ≡ Until until (Waits at failed))
+        (may : MayDo (Next.Ask (ToTimers (Cancel until.seat))) grain) where
+      abbrev cancel : TimerCall
+      cancel = Cancel until.seat
+
+      abbrev reply : TimerReply
+      reply = timing.answer_to p.object.timers cancel
+
+      abbrev cancel_heard : positions.TimedGrain system Own Holds
+      cancel_heard = Heard (ToTimers cancel) (FromTimers reply)
+
+      heard_is : grain ≡ cancel_heard
+      heard_is = asks_timers cancel may
+
+      own_mine : positions.IsMine system Own Holds m (Until until (Waits at failed))
+      own_mine = mine_of (Until until (Waits at failed)) is
+
+      seat_is : until.seat ≡ m
+      seat_is = own_mine.0.deadline.seat_is
+
+      seat_low : until.seat < length p.object.timers
+      seat_low =
+          subst (λ (q : ℕ). q < length p.object.timers) (sym seat_is)
+          (subst (λ (n : ℕ). m < n) (sym fine.timers_sized) low)
+
+      unset : IsChange p.object.timers (timing.after p.object.timers cancel) m timer.Unset
+      unset =
+          subst (λ (q : ℕ). IsChange p.object.timers (timing.after p.object.timers cancel) q
+          timer.Unset) seat_is (cancelled_so p.object.timers until.seat seat_low).change
+
+      reply_is : reply ≡ answer_cancelled own_timer
+      reply_is =
+          (cancelled_so p.object.timers until.seat seat_low).told_is
+          ∙ ap (λ (q : ℕ). answer_cancelled (timer_of p.object.timers q)) seat_is
+
+      cancels_to : (now : TimedCall At Out) (state : At)
+          → Holds (record {
+            object = p.object.device;
+            states = slice_set fine.states m state;
+            notes = same_notes;
+            levels = p.levels;
+          })
+          → positions.IsShown system Own Holds now state
+          → positions.IsMine system Own Holds m now
+          → positions.IsTimerOf system Own Holds m now timer.Unset
+          → positions.IsTold system Own Holds (now_at (Next.Ask (ToTimers cancel)) now cancel_heard)
+          m now timer.Unset
+          → Settles (Next.Ask (ToTimers cancel)) now grain
+      cancels_to now state inner show mine of_timer told =
+          subst (Settles (Next.Ask (ToTimers cancel)) now) (sym heard_is)
+          (changes (Next.Ask (ToTimers cancel)) now cancel_heard timer.Unset
+          (subst MayMove heard_is may_move) unset state inner show mine of_timer told)
+
+      -- where it is not over it waits on
+      cancels_in_vain : (d : Next Request Out) → does_at at ≡ d
+          → Settles (Next.Ask (ToTimers cancel)) (Until until (Waits at failed)) grain
+      cancels_in_vain d d_is =
+          cancels_to (Until until (Waits at failed)) call (inner_stays same_notes same_long)
+          (show_of (Until until (Waits at failed)) is) own_mine tt tt
+
+      -- the note of the tick is still to come, where it did not end the last sleep
+      comes_still : (answer : Result Out Fault) (now : TimedCall At Out)
+          → is_expired reply ≡ true
+          → holds (ending_notes (ended_with failed answer)) Expired ≡ false
+          → NoteComes system (now_at (Next.Ask (ToTimers cancel)) now cancel_heard) m
+      comes_still answer now expired_is none = by own_timer refl
+        where
+          has_none : (f : Option Fault) (a : Result Out Fault)
+              → positions.HasNote system Own Holds f
+              → holds (ending_notes (ended_with f a)) Expired ≡ false → ⊥
+          has_none (Some (fault.Interrupted set)) (Ok out) has without =
+              let both = sym has ∙ without in cc
+          has_none (Some (fault.Interrupted set)) (Err why) has without =
+              let both = sym has ∙ without in cc
+          has_none (Some other) a has without = absurd has
+          has_none None a has without = absurd has
+
+          on : positions.HasNote system Own Holds failed ⊎ NoteComes system p m
+              → NoteComes system (now_at (Next.Ask (ToTimers cancel)) now cancel_heard) m
+          on (inl has) = absurd (has_none failed answer has none)
+          on (inr comes) =
+              positions.comes_on system Own Holds p fine m low cancel_heard
+              (subst MayMove heard_is may_move) (Next.Ask (ToTimers cancel)) now m low (inr tt)
+              comes
+
+          by : (t : Timer) → own_timer ≡ t
+              → NoteComes system (now_at (Next.Ask (ToTimers cancel)) now cancel_heard) m
+          by timer.Expired t_is =
+              on (subst (positions.IsTold system Own Holds p m (Until until (Waits at failed))) t_is
+              (told_of (Until until (Waits at failed)) is))
+          by (timer.Set to moment) t_is =
+              absurd (let no = sym expired_is ∙ ap is_expired (reply_is ∙ ap answer_cancelled t_is) in
+              cc)
+          by timer.Unset t_is =
+              absurd (let no = sym expired_is ∙ ap is_expired (reply_is ∙ ap answer_cancelled t_is) in
+              cc)
+
+      -- where it is over, with this answer
+      cancels_at_end : (answer : Result Out Fault) (state : At)
+          → HasEnded (does_at state)
+          → Holds (record {
+            object = p.object.device;
+            states = slice_set fine.states m state;
+            notes = same_notes;
+            levels = p.levels;
+          })
+          → Settles (Next.Ask (ToTimers cancel))
+          (Until until (with_notes (is_expired reply) (ending_notes (ended_with failed answer))
+          (ended_with failed answer))) grain
+      cancels_at_end answer state ended inner =
+          with_notes_cases (λ (s : TimedState At Out).
+          Settles (Next.Ask (ToTimers cancel)) (Until until s) grain) (is_expired reply)
+          (ending_notes (ended_with failed answer)) (ended_with failed answer)
+          (λ expired_is none. cancels_to
+          (Until until (Awaits (ending_notes (ended_with failed answer))
+          (ended_with failed answer))) state inner ended (own_mine.0, none) refl
+          (comes_still answer _ expired_is none))
+          (λ set out. cancels_to (Until until (PutsBack set out)) state inner ended
+          (own_mine.0, tt) refl tt)
+          (λ out. cancels_to (Until until (Over out)) state inner ended (own_mine.0, tt) refl tt)
+
+      -- by what the call within does
+      cancels : (d : Next Request Out) → does_at at ≡ d
+          → Settles (Next.Ask (ToTimers cancel))
+          (Until until (cancelled system.machine until reply at failed
+          (ending_at system.machine failed at d))) grain
+      cancels (Next.Over answer) d_is =
+          cancels_at_end answer at (subst HasEnded (sym d_is) tt)
+          (subst (λ (a : At). Holds (record {
+            object = p.object.device;
+            states = slice_set fine.states m a;
+            notes = same_notes;
+            levels = p.levels;
+          })) (show_of (Until until (Waits at failed)) is) (inner_stays same_notes same_long))
+      cancels (Next.Return set) d_is = by (does_at gone) refl
+        where
+          gone : At
+          gone = system.machine.goes_on at Outcome.Went
+
+          by : (e : Next Request Out) → does_at gone ≡ e
+              → Settles (Next.Ask (ToTimers cancel))
+              (Until until (cancelled system.machine until reply at failed (ending_of failed e)))
+              grain
+          by (Next.Over answer) e_is =
+              cancels_at_end answer gone (subst HasEnded (sym e_is) tt)
+              (inner_returns set at (show_of (Until until (Waits at failed)) is) d_is same_notes
+              same_long)
+          by (Next.Ask request) e_is = cancels_in_vain (Next.Return set) d_is
+          by (Next.Sleep rendez number) e_is = cancels_in_vain (Next.Return set) d_is
+          by (Next.Wake rendez level) e_is = cancels_in_vain (Next.Return set) d_is
+          by (Next.Return other) e_is = cancels_in_vain (Next.Return set) d_is
+          by (Next.Post to other) e_is = cancels_in_vain (Next.Return set) d_is
+          by Next.Drain e_is = cancels_in_vain (Next.Return set) d_is
+      cancels (Next.Ask request) d_is = cancels_in_vain (Next.Ask request) d_is
+      cancels (Next.Sleep rendez number) d_is = cancels_in_vain (Next.Sleep rendez number) d_is
+      cancels (Next.Wake rendez level) d_is = cancels_in_vain (Next.Wake rendez level) d_is
+      cancels (Next.Post to other) d_is = cancels_in_vain (Next.Post to other) d_is
+      cancels Next.Drain d_is = cancels_in_vain Next.Drain d_is
+
+    waits_any : (until : Deadline) (at : At) (failed : Option Fault)
+        → at_of timed p m ≡ Until until (Waits at failed)
+        → (d : Next Request Out) → does_at at ≡ d
+        → MayDo (next_with (λ request. request) FromCall (waits_with system.machine until d)) grain
+        → Settles (next_with (λ request. request) FromCall (waits_with system.machine until d))
+        (Until until (waits_on system.machine until at failed (outcome_by grain))) grain
+    waits_any until at failed is d d_is may = by d d_is may
+      where
+        inner : (other : Next Request Out) → does_at at ≡ other → MayDo (as_next system other) grain
+            → Settles (as_next system other)
+            (Until until (waits_on system.machine until at failed (outcome_by grain))) grain
+        inner other other_is =
+            subst (λ (n : Next Request Out). MayDo (as_next system n) grain
+            → Settles (as_next system n)
+            (Until until (waits_on system.machine until at failed (outcome_by grain))) grain)
+            other_is (waits_moves until at failed is)
+
+        ends : (other : Next Request Out) → does_at at ≡ other
+            → MayDo (Next.Ask (ToTimers (Cancel until.seat))) grain
+            → Settles (Next.Ask (ToTimers (Cancel until.seat)))
+            (Until until (waits_on system.machine until at failed (outcome_by grain))) grain
+        ends other other_is can =
+            subst (λ (g : positions.TimedGrain system Own Holds).
+            Settles (Next.Ask (ToTimers (Cancel until.seat)))
+            (Until until (waits_on system.machine until at failed (outcome_by g))) grain)
+            (sym (asks_timers (Cancel until.seat) can))
+            (cancels until at failed is can (does_at at) refl)
+
+        by : (other : Next Request Out) → does_at at ≡ other
+            → MayDo (next_with (λ request. request) FromCall
+            (waits_with system.machine until other)) grain
+            → Settles (next_with (λ request. request) FromCall
+            (waits_with system.machine until other))
+            (Until until (waits_on system.machine until at failed (outcome_by grain))) grain
+        by (Next.Return set) other_is can = ends (Next.Return set) other_is can
+        by (Next.Over answer) other_is can = ends (Next.Over answer) other_is can
+        by (Next.Sleep rendez number) other_is can =
+            inner (Next.Sleep rendez number) other_is can
+        by (Next.Ask request) other_is can = inner (Next.Ask request) other_is can
+        by (Next.Wake rendez level) other_is can = inner (Next.Wake rendez level) other_is can
+        by (Next.Post to set) other_is can = inner (Next.Post to set) other_is can
+        by Next.Drain other_is can = inner Next.Drain other_is can

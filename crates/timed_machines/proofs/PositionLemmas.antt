@@ -279,7 +279,7 @@ module _ {At Request Reply Out Object : Type 0} (system : System At Request Repl
           by (inr same) = ap (λ (n : NoteSet). holds n Expired) same ∙ has
 
       -- one that is owed is owed on, or is pending
-      owed_on : (does : TimedNext) (now : TimedCall At Out) (other ticker : ℕ)
+      pub owed_on : (does : TimedNext) (now : TimedCall At Out) (other ticker : ℕ)
           → other < procs system → ticker < procs system
           → IsToTell system other (at_of timed p ticker)
           → NoteComes system (moved_so p m does now grain) other
