@@ -32,7 +32,7 @@ use Rattle.call_machines.specs.Grain.Grain.{Woken}
 use Rattle.call_machines.specs.Machine.{Next, Outcome, next_with}
 use Rattle.call_machines.specs.Runs.{System, procs}
 use Rattle.call_machines.specs.StrictRuns.{MayLoosely}
-use Rattle.call_machines.proofs.CoarseLemmas.{comes_loosely}
+use Rattle.call_machines.proofs.CoarseLemmas.{comes_loosely, own_now}
 use Rattle.timer_machines.specs.Requests.{TimedReply, TimedRequest}
 use Rattle.timer_machines.specs.Requests.TimedReply.{FromDevice, FromTimers}
 use Rattle.timer_machines.specs.Requests.TimedRequest.{ToDevice, ToTimers}
@@ -41,7 +41,8 @@ use Rattle.timer_machines.specs.TickMachine.TickState.{Asking, Telling, Ticked}
 use Rattle.timer_machines.specs.TimedMachines.{Deadline, TimedState, begins_on, begins_with, cancelled}
 use Rattle.timer_machines.specs.TimedMachines.{ended_with, ending_at, ending_of, failed_by}
 use Rattle.timer_machines.specs.TimedMachines.{goes_within, is_expired, looked, waits_on, waits_with}
-use Rattle.timer_machines.specs.TimedMachines.{with_notes}
+use Rattle.timer_machines.specs.TimedMachines.{timed_does, with_notes}
+use Rattle.timer_list.specs.declared.limits.TheConstants.{LAST_THRESHOLD}
 use Rattle.timer_machines.specs.TimedMachines.TimedState.{Awaits, Begins, Drains, Over, PutsBack}
 use Rattle.timer_machines.specs.TimedMachines.TimedState.{Waits}
 use Rattle.timed_machines.specs.NotesKept.{ComesFrom, IsAsleep, KeepsNotes, ended_by}
@@ -788,3 +789,412 @@ module _ {At Request Reply Out Object : Type 0} (system : System At Request Repl
         by (Next.Wake rendez level) other_is can = inner (Next.Wake rendez level) other_is can
         by (Next.Post to set) other_is can = inner (Next.Post to set) other_is can
         by Next.Drain other_is can = inner Next.Drain other_is can
+
+    -- ---- it awaits the note of a tick
+
+    -- its notes are others
+    notes_long : (g : positions.TimedGrain system Own Holds)
+        → length (notes_after timed p m g) ≡ length p.notes
+    notes_long g =
+        length-set p.notes (receiver m g) (notes_by (notes_of timed p (receiver m g)) g)
+
+    -- where it took these notes, that of the tick is still to come if it is none of them
+    comes_later : (set notes : NoteSet) (does : positions.TimedNext system Own Holds)
+        (now : TimedCall At Out) → set ≡ notes_of timed p m
+        → holds (joined notes set) Expired ≡ false → NoteComes system p m
+        → NoteComes system (now_at does now grain) m
+    comes_later set notes does now all none (IsPending has) =
+        absurd (let both = sym (holds_other notes set (ap (λ (n : NoteSet). holds n Expired) all
+        ∙ has)) ∙ none in cc)
+    comes_later set notes does now all none (IsOwed ticker there tells) =
+        positions.owed_on system Own Holds p fine m low grain may_move does now m ticker low there
+        tells
+
+    module _ (until : Deadline) (notes : NoteSet) (ending : WaitEnd Out) where
+      awaits_so : at_of timed p m ≡ Until until (Awaits notes ending)
+          → MayDo (next_with (λ request. request) FromCall
+          (timed_does system.machine until (Awaits notes ending))) grain
+          → Settles (next_with (λ request. request) FromCall
+          (timed_does system.machine until (Awaits notes ending)))
+          (call_goes_on system (Until until (Awaits notes ending)) (outcome_by grain)) grain
+      awaits_so is can = by grain refl can
+        where
+          was : TimedCall At Out
+          was = Until until (Awaits notes ending)
+
+          does : positions.TimedNext system Own Holds
+          does = Next.Sleep until.rendez LAST_THRESHOLD
+
+          mine : positions.IsMine system Own Holds m was
+          mine = mine_of was is
+
+          -- where more notes came
+          ends : (set : NoteSet) (g : positions.TimedGrain system Own Holds)
+              → MayMove g
+              → Holds (positions.shown system Own Holds (now_at does was g)
+              (slice_set fine.states m call))
+              → (object_with timed p.object g).timers ≡ p.object.timers
+              → (holds (joined notes set) Expired ≡ false → (now : TimedCall At Out)
+              → NoteComes system (now_at does now g) m)
+              → Settles does (Until until (with_notes true (joined notes set) ending)) g
+          ends set g may_g inner same comes =
+              with_notes_cases (λ (s : TimedState At Out). Settles does (Until until s) g) true
+              (joined notes set) ending
+              (λ expired_is none. same_timers does (Until until (Awaits (joined notes set) ending))
+              g may_g same call inner (show_of was is) (mine.0, none) (timer_so was is)
+              (comes none (Until until (Awaits (joined notes set) ending))))
+              (λ back out. same_timers does (Until until (PutsBack back out)) g may_g same call
+              inner (show_of was is) (mine.0, tt) (timer_so was is) tt)
+              (λ out. same_timers does (Until until (Over out)) g may_g same call inner
+              (show_of was is) (mine.0, tt) (timer_so was is) tt)
+
+          refused : (why : Fault) (g : positions.TimedGrain system Own Holds) → grain ≡ g
+              → g ≡ Refused why → IsRefusal why
+              → Settles does (Until until (looked system.machine until notes ending (Err why)))
+              (Refused why)
+          refused (fault.Interrupted set) g g_is w_is refusal = absurd refusal
+          refused why g g_is w_is refusal =
+              same_timers does (Until until (Drains notes ending)) (Refused why)
+              (subst MayMove (g_is ∙ w_is) may_move) refl call
+              (inner_stays (notes_after timed p m (refusal_of why)) (notes_long (refusal_of why)))
+              (show_of was is) (mine.0, tt) (timer_so was is)
+              (positions.comes_on system Own Holds p fine m low (Refused why)
+              (subst MayMove (g_is ∙ w_is) may_move) does (Until until (Drains notes ending)) m low
+              (inr tt) (told_of was is))
+            where
+              refusal_of : Fault → positions.TimedGrain system Own Holds
+              refusal_of w = Refused w
+
+          by : (g : positions.TimedGrain system Own Holds) → grain ≡ g → MayDo does g
+              → Settles does (call_goes_on system was (outcome_by g)) g
+          by Woken g_is may =
+              ends no_notes Woken (subst MayMove g_is may_move)
+              (inner_stays (notes_after timed p m woken_grain) (notes_long woken_grain)) refl
+              (λ none now. positions.comes_on system Own Holds p fine m low Woken
+              (subst MayMove g_is may_move) does now m low (inr tt) (told_of was is))
+            where
+              woken_grain : positions.TimedGrain system Own Holds
+              woken_grain = Woken
+          by (Noted set) g_is may =
+              ends set (Noted set) (subst MayMove g_is may_move)
+              (inner_stays (notes_after timed p m noted_grain) (notes_long noted_grain)) refl
+              (λ none now. subst (λ (g : positions.TimedGrain system Own Holds).
+              NoteComes system (now_at does now g) m) g_is
+              (comes_later set notes does now may.4 none (told_of was is)))
+            where
+              noted_grain : positions.TimedGrain system Own Holds
+              noted_grain = Noted set
+          by (Refused why) g_is may = refused why (Refused why) g_is refl may.3
+          by g g_is may =
+              absurd (comes_loosely timed p.object (notes_of timed p m) does g may)
+
+      drains_so : at_of timed p m ≡ Until until (Drains notes ending)
+          → MayDo Next.Drain grain
+          → Settles Next.Drain
+          (call_goes_on system (Until until (Drains notes ending)) (outcome_by grain)) grain
+      drains_so is can = by grain refl can
+        where
+          was : TimedCall At Out
+          was = Until until (Drains notes ending)
+
+          mine : positions.IsMine system Own Holds m was
+          mine = mine_of was is
+
+          drained : (set : NoteSet) → grain ≡ Drained set → set ≡ notes_of timed p m
+              → Settles Next.Drain (Until until (with_notes true (joined notes set) ending))
+              (Drained set)
+          drained set g_is all =
+              with_notes_cases (λ (s : TimedState At Out).
+              Settles Next.Drain (Until until s) (Drained set)) true (joined notes set) ending
+              (λ expired_is none. same_timers Next.Drain
+              (Until until (Awaits (joined notes set) ending)) (Drained set)
+              (subst MayMove g_is may_move) refl call inner (show_of was is) (mine.0, none)
+              (timer_so was is)
+              (subst (λ (g : positions.TimedGrain system Own Holds). NoteComes system
+              (now_at Next.Drain (Until until (Awaits (joined notes set) ending)) g) m) g_is
+              (comes_later set notes Next.Drain
+              (Until until (Awaits (joined notes set) ending)) all none (told_of was is))))
+              (λ back out. same_timers Next.Drain (Until until (PutsBack back out)) (Drained set)
+              (subst MayMove g_is may_move) refl call inner (show_of was is) (mine.0, tt)
+              (timer_so was is) tt)
+              (λ out. same_timers Next.Drain (Until until (Over out)) (Drained set)
+              (subst MayMove g_is may_move) refl call inner (show_of was is) (mine.0, tt)
+              (timer_so was is) tt)
+            where
+              drained_grain : positions.TimedGrain system Own Holds
+              drained_grain = Drained set
+
+              inner : Holds (record {
+                object = p.object.device;
+                states = slice_set fine.states m call;
+                notes = notes_after timed p m drained_grain;
+                levels = p.levels;
+              })
+              inner = inner_stays (notes_after timed p m drained_grain) (notes_long drained_grain)
+
+          by : (g : positions.TimedGrain system Own Holds) → grain ≡ g → MayDo Next.Drain g
+              → Settles Next.Drain (call_goes_on system was (outcome_by g)) g
+          by (Drained set) g_is may = drained set g_is may.1
+          by g g_is may =
+              absurd (comes_loosely timed p.object (notes_of timed p m) Next.Drain g may)
+
+    -- it puts notes back
+    puts_back_so : (until : Deadline) (set : NoteSet) (out : Result Out Fault)
+        → at_of timed p m ≡ Until until (PutsBack set out) → MayDo (Next.Return set) grain
+        → Settles (Next.Return set)
+        (call_goes_on system (Until until (PutsBack set out)) (outcome_by grain)) grain
+    puts_back_so until set out is can = by grain refl can
+      where
+        was : TimedCall At Out
+        was = Until until (PutsBack set out)
+
+        by : (g : positions.TimedGrain system Own Holds) → grain ≡ g → MayDo (Next.Return set) g
+            → Settles (Next.Return set) (call_goes_on system was (outcome_by g)) g
+        by (Returned other) g_is may =
+            same_timers (Next.Return set) (Until until (Over out)) (Returned other)
+            (subst MayMove g_is may_move) refl call
+            (inner_stays (notes_after timed p m returned) (notes_long returned)) (show_of was is)
+            ((mine_of was is).0, tt) (timer_so was is) tt
+          where
+            returned : positions.TimedGrain system Own Holds
+            returned = Returned other
+        by g g_is may =
+            absurd (comes_loosely timed p.object (notes_of timed p m) (Next.Return set) g may)
+
+    -- ---- a tick
+
+    telling_so : (now count : ℕ) (to : Pid) → at_of timed p m ≡ Tick now (Telling count to)
+        → MayDo (Next.Post to (only Expired)) grain
+        → Settles (Next.Post to (only Expired))
+        (call_goes_on system (Tick now (Telling count to)) (outcome_by grain)) grain
+    telling_so now count to is can = by grain refl can
+      where
+        was : TimedCall At Out
+        was = Tick now (Telling count to)
+
+        by : (g : positions.TimedGrain system Own Holds) → grain ≡ g
+            → MayDo (Next.Post to (only Expired)) g
+            → Settles (Next.Post to (only Expired)) (call_goes_on system was (outcome_by g)) g
+        by (Posted other set) g_is may =
+            same_timers (Next.Post to (only Expired))
+            (Tick now (asks_on (procs system) (procs system) now count)) (Posted other set)
+            (subst MayMove g_is may_move) refl call
+            (inner_stays (notes_after timed p m posted) (notes_long posted)) (show_of was is) tt
+            (timer_so was is) tt
+          where
+            posted : positions.TimedGrain system Own Holds
+            posted = Posted other set
+        by g g_is may =
+            absurd (comes_loosely timed p.object (notes_of timed p m)
+            (Next.Post to (only Expired)) g may)
+
+    asking_so : (now count : ℕ) → at_of timed p m ≡ Tick now (Asking count)
+        → MayDo (Next.Ask (ToTimers (Expire now))) grain
+        → Settles (Next.Ask (ToTimers (Expire now)))
+        (call_goes_on system (Tick now (Asking count)) (outcome_by grain)) grain
+    asking_so now count is can =
+        subst (λ (g : positions.TimedGrain system Own Holds). Settles (Next.Ask (ToTimers c))
+        (call_goes_on system was (outcome_by g)) g) (sym heard_is)
+        (by (expires_so now p.object.timers))
+      where
+        was : TimedCall At Out
+        was = Tick now (Asking count)
+
+        c : TimerCall
+        c = Expire now
+
+        heard : positions.TimedGrain system Own Holds
+        heard = Heard (ToTimers c) (FromTimers (timing.answer_to p.object.timers c))
+
+        heard_is : grain ≡ heard
+        heard_is = asks_timers c can
+
+        may_heard : MayMove heard
+        may_heard = subst MayMove heard_is may_move
+
+        inner : Holds (record {
+          object = p.object.device;
+          states = slice_set fine.states m call;
+          notes = same_notes;
+          levels = p.levels;
+        })
+        inner = inner_stays same_notes same_long
+
+        gone : TimerReply → TimedCall At Out
+        gone reply = Tick now (expired (procs system) (procs system) now count reply)
+
+        by : Expires now p.object.timers
+            → Settles (Next.Ask (ToTimers c)) (gone (timing.answer_to p.object.timers c)) heard
+        by (FindsNone reply_is same) =
+            same_timers (Next.Ask (ToTimers c)) (gone (timing.answer_to p.object.timers c)) heard
+            may_heard same call inner (show_of was is) tt (timer_so was is) tt
+        by (TakesOne seat pid moment has reply_is changed) =
+            subst (λ (r : TimerReply). Settles (Next.Ask (ToTimers c)) (gone r) heard)
+            (sym reply_is)
+            (subst (λ (s : TickState). Settles (Next.Ask (ToTimers c)) (Tick now s) heard)
+            (sym tells_is) takes)
+          where
+            within : seat < length p.object.timers
+            within = of (nat_lt seat (length p.object.timers)) refl
+              where
+                of : (b : Bool) → nat_lt seat (length p.object.timers) ≡ b
+                    → seat < length p.object.timers
+                of true b_is = grind (arith, nat_tests)
+                of false b_is =
+                    let far : length p.object.timers ≤ seat = grind (arith, nat_tests) in
+                    absurd (let none = sym has ∙ get_or_past p.object.timers seat timer.Unset far in
+                    cc)
+
+            seat_low : seat < procs system
+            seat_low = subst (λ (n : ℕ). seat < n) fine.timers_sized within
+
+            pid_is : pid.0 ≡ seat
+            pid_is =
+                of (at_of timed p seat)
+                (subst (positions.IsTimerOf system Own Holds seat (at_of timed p seat)) has
+                (fine.own_timer seat seat_low))
+              where
+                of : (s : TimedCall At Out)
+                    → positions.IsTimerOf system Own Holds seat s (timer.Set pid moment)
+                    → pid.0 ≡ seat
+                of (Until until (Waits at failed)) set_for = set_for
+                of s unset = absurd cc
+
+            telling : TickState
+            telling = Telling (count + 1) pid
+
+            tells_is : tells (procs system) (procs system) now (count + 1) pid ≡ telling
+            tells_is =
+                ap (λ (b : Bool). if b then telling
+                else asks_on (procs system) (procs system) now (count + 1)) low_is
+              where
+                low_is : nat_lt pid.0 (procs system) ≡ true
+                low_is =
+                    let here : pid.0 < procs system =
+                    subst (λ (q : ℕ). q < procs system) (sym pid_is) seat_low in
+                    grind (arith, nat_tests)
+
+            change : IsChange p.object.timers (timing.after p.object.timers c) seat timer.Expired
+            change =
+                subst (λ (l : List Timer). IsChange p.object.timers l seat timer.Expired)
+                (sym changed) (set_so p.object.timers seat timer.Expired within)
+
+            differs : m ≢ seat
+            differs same =
+                let none = sym (timer_so was is) ∙ (ap (timer_of p.object.timers) same ∙ has) in cc
+
+            now_is : Coarse timed
+            now_is = now_at (Next.Ask (ToTimers c)) (Tick now telling) heard
+
+            -- the timer of a process that waits expired, or it is as it was
+            others_timer : (other : ℕ) → other < procs system
+                → positions.IsTimerOf system Own Holds other (at_of timed p other)
+                (positions.timer_at system Own Holds now_is other)
+            others_timer other there = of (eqb_tells other seat)
+              where
+                expires : (s : TimedCall At Out)
+                    → positions.IsTimerOf system Own Holds seat s (timer.Set pid moment)
+                    → positions.IsTimerOf system Own Holds seat s timer.Expired
+                expires (Until until (Waits at failed)) set_for = tt
+                expires s unset = absurd cc
+
+                of : ((eqb other seat ≡ true) × (other ≡ seat))
+                    ⊎ ((eqb other seat ≡ false) × (other ≢ seat))
+                    → positions.IsTimerOf system Own Holds other (at_of timed p other)
+                    (positions.timer_at system Own Holds now_is other)
+                of (inl same) =
+                    subst (λ (q : ℕ). positions.IsTimerOf system Own Holds q (at_of timed p q)
+                    (positions.timer_at system Own Holds now_is q)) (sym same.1)
+                    (subst (positions.IsTimerOf system Own Holds seat (at_of timed p seat))
+                    (sym change.own)
+                    (expires (at_of timed p seat)
+                    (subst (positions.IsTimerOf system Own Holds seat (at_of timed p seat)) has
+                    (fine.own_timer seat seat_low))))
+                of (inr apart) =
+                    subst (positions.IsTimerOf system Own Holds other (at_of timed p other))
+                    (sym (change.others other apart.1)) (fine.own_timer other there)
+
+            others_told : (other : ℕ) → other ≢ m → other < procs system
+                → positions.IsTold system Own Holds now_is other (at_of timed p other)
+                (positions.timer_at system Own Holds now_is other)
+            others_told other apart there = of (eqb_tells other seat)
+              where
+                owed : NoteComes system now_is seat
+                owed =
+                    IsOwed m low (subst (IsToTell system seat)
+                    (sym (own_now p.states m (positions.long system Own Holds p fine m low)
+                    (Tick now telling) (timed.none))) pid_is)
+
+                expires : (s : TimedCall At Out)
+                    → positions.IsTimerOf system Own Holds seat s (timer.Set pid moment)
+                    → positions.IsTold system Own Holds now_is seat s timer.Expired
+                expires (Until until (Waits at failed)) set_for = inr owed
+                expires s unset = absurd cc
+
+                of : ((eqb other seat ≡ true) × (other ≡ seat))
+                    ⊎ ((eqb other seat ≡ false) × (other ≢ seat))
+                    → positions.IsTold system Own Holds now_is other (at_of timed p other)
+                    (positions.timer_at system Own Holds now_is other)
+                of (inl same) =
+                    subst (λ (q : ℕ). positions.IsTold system Own Holds now_is q (at_of timed p q)
+                    (positions.timer_at system Own Holds now_is q)) (sym same.1)
+                    (subst (positions.IsTold system Own Holds now_is seat (at_of timed p seat))
+                    (sym change.own)
+                    (expires (at_of timed p seat)
+                    (subst (positions.IsTimerOf system Own Holds seat (at_of timed p seat)) has
+                    (fine.own_timer seat seat_low))))
+                of (inr off) =
+                    subst (positions.IsTold system Own Holds now_is other (at_of timed p other))
+                    (sym (change.others other off.1))
+                    (positions.told_on system Own Holds p fine m low heard may_heard
+                    (Next.Ask (ToTimers c)) (Tick now telling) other there (inl apart)
+                    (at_of timed p other) (positions.timer_at system Own Holds p other)
+                    (fine.told other there))
+
+            takes : Settles (Next.Ask (ToTimers c)) (Tick now telling) heard
+            takes =
+                record {
+                  state = call;
+                  inner = inner;
+                  show = show_of was is;
+                  mine = tt;
+                  timers_sized = change.sized ∙ fine.timers_sized;
+                  own_timer = change.others m differs ∙ timer_so was is;
+                  told = tt;
+                  others_timer = λ other apart there. others_timer other there;
+                  others_told = λ other apart there. others_told other apart there;
+                }
+
+    tick_so : (now : ℕ) (at : TickState) → at_of timed p m ≡ Tick now at
+        → MayDo (call_does system (Tick now at)) grain
+        → Settles (call_does system (Tick now at)) (call_goes_on system (Tick now at)
+        (outcome_by grain)) grain
+    tick_so now (Asking count) is can = asking_so now count is can
+    tick_so now (Telling count to) is can = telling_so now count to is can
+    tick_so now (Ticked count) is can =
+        absurd (comes_loosely timed p.object (notes_of timed p m)
+        (call_does system (Tick now (Ticked count))) grain can)
+
+    -- ---- any move
+
+    moves_so : (s : TimedCall At Out) → at_of timed p m ≡ s → MayDo (call_does system s) grain
+        → Settles (call_does system s) (call_goes_on system s (outcome_by grain)) grain
+    moves_so (Plain at) is can = plain_moves at is can
+    moves_so (Until until (Begins at)) is can = begins_any until at is (does_at at) refl can
+    moves_so (Until until (Waits at failed)) is can =
+        waits_any until at failed is (does_at at) refl can
+    moves_so (Until until (Awaits notes ending)) is can = awaits_so until notes ending is can
+    moves_so (Until until (Drains notes ending)) is can = drains_so until notes ending is can
+    moves_so (Until until (PutsBack set out)) is can = puts_back_so until set out is can
+    moves_so (Until until (Over out)) is can =
+        absurd (comes_loosely timed p.object (notes_of timed p m)
+        (call_does system (Until until (Over out))) grain can)
+    moves_so (Tick now at) is can = tick_so now at is can
+
+    -- so all of it holds after it
+    pub fine_more : positions.Fine system Own Holds
+        (moved timed p (record { by = m; grain = grain }))
+    fine_more =
+        positions.settle system Own Holds p fine m low (call_does system (at_of timed p m))
+        (call_goes_on system (at_of timed p m) (outcome_by grain)) grain
+        (moves_so (at_of timed p m) refl may_move)

@@ -175,7 +175,7 @@ module _ {At Request Reply Out Object : Type 0} (system : System At Request Repl
         (timer_at (moved_so p m does now grain) other)
 
   module _ (p : Coarse timed) (fine : Fine p) (m : ℕ) (low : m < procs system) where
-    long : m < length p.states
+    pub long : m < length p.states
     long = subst (λ (n : ℕ). m < n) (sym fine.sized) low
 
     long_within : m < length fine.states
