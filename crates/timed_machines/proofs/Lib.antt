@@ -1,4 +1,5 @@
 pub mod InnerMoves
+pub mod InvariantLemmas
 pub mod MoveLemmas
 pub mod NoteFacts
 pub mod PositionLemmas

@@ -97,3 +97,14 @@ with_notes_cases {At} {Out} X expired notes ending awaits puts over =
     by true false is none = awaits is none
     by true true is some = ends
     by false h is none = ends
+
+-- one that is to await it does, where it is not among these notes
+pub awaits_on : {At Out : Type 0} (notes : NoteSet) (ending : WaitEnd Out)
+    → holds notes Expired ≡ false → with_notes {At = At} true notes ending ≡ Awaits notes ending
+awaits_on {At} {Out} notes ending none = ap of none
+  where
+    of : Bool → TimedState At Out
+    of b =
+        if true && not b then Awaits notes ending
+        else with_left_over (left_over (without_expired notes) ending)
+        (timed_answer true (without_expired notes) ending)
