@@ -42,8 +42,8 @@ use Rattle.timed_machines.specs.TimedCalls.{TimedCall, TimedObject, TimedOut, ca
 use Rattle.timed_machines.specs.TimedCalls.{timed_calls}
 use Rattle.timed_machines.specs.TimedCalls.TimedCall.{Plain, Tick, Until}
 use Rattle.timed_machines.specs.TimedCalls.TimedOut.{FromCall, FromTick}
-use Rattle.timed_machines.specs.TimedEnds.{BeginsTimed, IsItsDeadline, IsToTell, NoteComes, timed_goes}
-use Rattle.timed_machines.specs.TimedEnds.NoteComes.{IsOwed, IsPending}
+use Rattle.timed_machines.specs.TimedEnds.{BeginsTimed, timed_goes}
+use Rattle.timed_machines.proofs.PositionLemmas.NoteComes.{IsOwed, IsPending}
 use Rattle.timed_machines.proofs.InnerMoves.{as_next, over_as, sleeps_as}
 use Rattle.timed_machines.proofs.MoveLemmas as moves
 use Rattle.timed_machines.proofs.NoteFacts.{awaits_on, holds_some, joined_none}
@@ -176,7 +176,7 @@ module _ {At Request Reply Out Object : Type 0} (system : System At Request Repl
   ended_timer pid (Tick now at) t over is = is
 
   -- who is to tell has not ended
-  tells_on : (pid : ℕ) (s : TimedCall At Out) → IsToTell system pid s
+  tells_on : (pid : ℕ) (s : TimedCall At Out) → positions.IsToTell system Own Holds pid s
       → HasEnded (call_does system s) → ⊥
   tells_on pid (Tick now (Telling count to)) tells over = over
   tells_on pid s tells over = absurd tells
@@ -198,14 +198,14 @@ module _ {At Request Reply Out Object : Type 0} (system : System At Request Repl
     abbrev begun_at : TimedCall At Out → Coarse timed
     begun_at next = begun timed p pid next
 
-    comes_on : (next : TimedCall At Out) (other : ℕ) → NoteComes system p other
-        → NoteComes system (begun_at next) other
+    comes_on : (next : TimedCall At Out) (other : ℕ) → positions.NoteComes system Own Holds p other
+        → positions.NoteComes system Own Holds (begun_at next) other
     comes_on next other (IsPending has) = IsPending has
     comes_on next other (IsOwed ticker there tells) =
-        IsOwed ticker there (subst (IsToTell system other)
+        IsOwed ticker there (subst (positions.IsToTell system Own Holds other)
         (sym (others_now p.states pid long next (timed.none) ticker
         (λ same. tells_on other (at_of timed p pid)
-        (subst (λ (q : ℕ). IsToTell system other (at_of timed p q)) same tells) ended))) tells)
+        (subst (λ (q : ℕ). positions.IsToTell system Own Holds other (at_of timed p q)) same tells) ended))) tells)
 
     told_on : (next : TimedCall At Out) (other : ℕ) (s : TimedCall At Out) (t : Timer)
         → positions.IsTold system Own Holds p other s t
@@ -428,10 +428,10 @@ module _ {At Request Reply Out Object : Type 0} (system : System At Request Repl
 
     -- who is to tell goes on
     tells_now : IsCoarseStuck timed p → (pid ticker : ℕ) → ticker < procs system
-        → IsToTell system pid (at_of timed p ticker) → ⊥
+        → positions.IsToTell system Own Holds pid (at_of timed p ticker) → ⊥
     tells_now stuck pid ticker there tells = of (stuck ticker (many ticker there))
       where
-        asleep : (rendez : RendezId) (number : ℕ) (s : TimedCall At Out) → IsToTell system pid s
+        asleep : (rendez : RendezId) (number : ℕ) (s : TimedCall At Out) → positions.IsToTell system Own Holds pid s
             → call_does system s ≡ Next.Sleep rendez number → ⊥
         asleep rendez number (Tick now (Telling count to)) to_tell is = cc
         asleep rendez number s to_tell is = absurd to_tell
@@ -470,7 +470,7 @@ module _ {At Request Reply Out Object : Type 0} (system : System At Request Repl
         of (subst (λ (s : TimedCall At Out). positions.IsTold system Own Holds p pid s
         (positions.timer_at system Own Holds p pid)) is (fine.told pid low))
       where
-        of : NoteComes system p pid → ⊥
+        of : positions.NoteComes system Own Holds p pid → ⊥
         of (IsPending has) =
             let both = sym on.none ∙ holds_some (notes_of timed p pid) has in false≢true both
         of (IsOwed ticker there tells) = tells_now stuck pid ticker there tells

@@ -50,8 +50,8 @@ use Rattle.timed_machines.specs.TimedCalls.{TimedCall, TimedObject, TimedOut, ca
 use Rattle.timed_machines.specs.TimedCalls.{timed_calls}
 use Rattle.timed_machines.specs.TimedCalls.TimedCall.{Plain, Tick, Until}
 use Rattle.timed_machines.specs.TimedCalls.TimedOut.{FromCall, FromTick}
-use Rattle.timed_machines.specs.TimedEnds.{IsItsDeadline, IsToTell, NoteComes}
-use Rattle.timed_machines.specs.TimedEnds.NoteComes.{IsOwed, IsPending}
+use Rattle.timed_machines.specs.TimedEnds.{EndedByTick}
+use Rattle.timed_machines.proofs.PositionLemmas.NoteComes.{IsOwed, IsPending}
 use Rattle.timed_machines.proofs.InnerMoves.{as_grain, as_next, failed_as, inner_of, levels_as}
 use Rattle.timed_machines.proofs.InnerMoves.{notes_as, object_as, plain_as, receiver_as, waits_as}
 use Rattle.timed_machines.proofs.InnerMoves.{IsInner, within_as}
@@ -476,7 +476,7 @@ module _ {At Request Reply Out Object : Type 0} (system : System At Request Repl
 
     -- a call whose sleep the note of a tick ended does not sleep
     note_awake : (at : At) (failed : Option Fault) → positions.HasFailed system Own Holds failed at
-        → positions.HasNote system Own Holds failed → IsAsleep system.machine at → ⊥
+        → EndedByTick failed → IsAsleep system.machine at → ⊥
     note_awake at (Some (fault.Interrupted set)) ended has asleep =
         keeps.sleeps_no_more ended.from at set ended.times ended.asleep ended.comes asleep
     note_awake at (Some other) ended has asleep = absurd has
@@ -501,8 +501,8 @@ module _ {At Request Reply Out Object : Type 0} (system : System At Request Repl
       where
         Told : Grain Request Reply → Type 0
         Told g =
-            positions.HasNote system Own Holds (failed_as system failed g)
-            ⊎ NoteComes system
+            EndedByTick (failed_as system failed g)
+            ⊎ positions.NoteComes system Own Holds
             (now_at (as_next system (does_at at))
             (Until until (Waits (system.machine.goes_on at (outcome_by own))
             (failed_as system failed own))) grain) m
@@ -510,11 +510,11 @@ module _ {At Request Reply Out Object : Type 0} (system : System At Request Repl
         -- where the move takes no notes
         on : (g : Grain Request Reply) → grain ≡ as_grain system g
             → positions.TakesNone system Own Holds p fine m low (as_grain system g)
-            → (positions.HasNote system Own Holds failed
-            → positions.HasNote system Own Holds (failed_as system failed g)) → Told g
+            → (EndedByTick failed
+            → EndedByTick (failed_as system failed g)) → Told g
         on g g_is takes has = of was
           where
-            of : positions.HasNote system Own Holds failed ⊎ NoteComes system p m → Told g
+            of : EndedByTick failed ⊎ positions.NoteComes system Own Holds p m → Told g
             of (inl note) = inl (has note)
             of (inr comes) =
                 inr (positions.comes_on system Own Holds p fine m low grain may_move _ _ m low
@@ -525,7 +525,7 @@ module _ {At Request Reply Out Object : Type 0} (system : System At Request Repl
             → Told (Noted set)
         noted set is_all asleep = of was
           where
-            of : positions.HasNote system Own Holds failed ⊎ NoteComes system p m
+            of : EndedByTick failed ⊎ positions.NoteComes system Own Holds p m
                 → Told (Noted set)
             of (inl note) = absurd (note_awake at failed ended note asleep)
             of (inr (IsPending has)) = inl (ap (λ (n : NoteSet). holds n Expired) is_all ∙ has)
@@ -652,11 +652,11 @@ module _ {At Request Reply Out Object : Type 0} (system : System At Request Repl
       comes_still : (answer : Result Out Fault) (now : TimedCall At Out)
           → is_expired reply ≡ true
           → holds (ending_notes (ended_with failed answer)) Expired ≡ false
-          → NoteComes system (now_at (Next.Ask (ToTimers cancel)) now cancel_heard) m
+          → positions.NoteComes system Own Holds (now_at (Next.Ask (ToTimers cancel)) now cancel_heard) m
       comes_still answer now expired_is none = by own_timer refl
         where
           has_none : (f : Option Fault) (a : Result Out Fault)
-              → positions.HasNote system Own Holds f
+              → EndedByTick f
               → holds (ending_notes (ended_with f a)) Expired ≡ false → ⊥
           has_none (Some (fault.Interrupted set)) (Ok out) has without =
               let both = sym has ∙ without in cc
@@ -665,8 +665,8 @@ module _ {At Request Reply Out Object : Type 0} (system : System At Request Repl
           has_none (Some other) a has without = absurd has
           has_none None a has without = absurd has
 
-          on : positions.HasNote system Own Holds failed ⊎ NoteComes system p m
-              → NoteComes system (now_at (Next.Ask (ToTimers cancel)) now cancel_heard) m
+          on : EndedByTick failed ⊎ positions.NoteComes system Own Holds p m
+              → positions.NoteComes system Own Holds (now_at (Next.Ask (ToTimers cancel)) now cancel_heard) m
           on (inl has) = absurd (has_none failed answer has none)
           on (inr comes) =
               positions.comes_on system Own Holds p fine m low cancel_heard
@@ -674,7 +674,7 @@ module _ {At Request Reply Out Object : Type 0} (system : System At Request Repl
               comes
 
           by : (t : Timer) → own_timer ≡ t
-              → NoteComes system (now_at (Next.Ask (ToTimers cancel)) now cancel_heard) m
+              → positions.NoteComes system Own Holds (now_at (Next.Ask (ToTimers cancel)) now cancel_heard) m
           by timer.Expired t_is =
               on (subst (positions.IsTold system Own Holds p m (Until until (Waits at failed))) t_is
               (told_of (Until until (Waits at failed)) is))
@@ -801,8 +801,8 @@ module _ {At Request Reply Out Object : Type 0} (system : System At Request Repl
     -- where it took these notes, that of the tick is still to come if it is none of them
     comes_later : (set notes : NoteSet) (does : positions.TimedNext system Own Holds)
         (now : TimedCall At Out) → set ≡ notes_of timed p m
-        → holds (joined notes set) Expired ≡ false → NoteComes system p m
-        → NoteComes system (now_at does now grain) m
+        → holds (joined notes set) Expired ≡ false → positions.NoteComes system Own Holds p m
+        → positions.NoteComes system Own Holds (now_at does now grain) m
     comes_later set notes does now all none (IsPending has) =
         absurd (let both = sym (holds_other notes set (ap (λ (n : NoteSet). holds n Expired) all
         ∙ has)) ∙ none in cc)
@@ -835,7 +835,7 @@ module _ {At Request Reply Out Object : Type 0} (system : System At Request Repl
               (slice_set fine.states m call))
               → (object_with timed p.object g).timers ≡ p.object.timers
               → (holds (joined notes set) Expired ≡ false → (now : TimedCall At Out)
-              → NoteComes system (now_at does now g) m)
+              → positions.NoteComes system Own Holds (now_at does now g) m)
               → Settles does (Until until (with_notes true (joined notes set) ending)) g
           ends set g may_g inner same comes =
               with_notes_cases (λ (s : TimedState At Out). Settles does (Until until s) g) true
@@ -879,7 +879,7 @@ module _ {At Request Reply Out Object : Type 0} (system : System At Request Repl
               ends set (Noted set) (subst MayMove g_is may_move)
               (inner_stays (notes_after timed p m noted_grain) (notes_long noted_grain)) refl
               (λ none now. subst (λ (g : positions.TimedGrain system Own Holds).
-              NoteComes system (now_at does now g) m) g_is
+              positions.NoteComes system Own Holds (now_at does now g) m) g_is
               (comes_later set notes does now may.4 none (told_of was is)))
             where
               noted_grain : positions.TimedGrain system Own Holds
@@ -910,7 +910,7 @@ module _ {At Request Reply Out Object : Type 0} (system : System At Request Repl
               (Until until (Awaits (joined notes set) ending)) (Drained set)
               (subst MayMove g_is may_move) refl call inner (show_of was is) (mine.0, none)
               (timer_so was is)
-              (subst (λ (g : positions.TimedGrain system Own Holds). NoteComes system
+              (subst (λ (g : positions.TimedGrain system Own Holds). positions.NoteComes system Own Holds
               (now_at Next.Drain (Until until (Awaits (joined notes set) ending)) g) m) g_is
               (comes_later set notes Next.Drain
               (Until until (Awaits (joined notes set) ending)) all none (told_of was is))))
@@ -1119,9 +1119,9 @@ module _ {At Request Reply Out Object : Type 0} (system : System At Request Repl
                 (positions.timer_at system Own Holds now_is other)
             others_told other apart there = of (eqb_tells other seat)
               where
-                owed : NoteComes system now_is seat
+                owed : positions.NoteComes system Own Holds now_is seat
                 owed =
-                    IsOwed m low (subst (IsToTell system seat)
+                    IsOwed m low (subst (positions.IsToTell system Own Holds seat)
                     (sym (own_now p.states m (positions.long system Own Holds p fine m low)
                     (Tick now telling) (timed.none))) pid_is)
 

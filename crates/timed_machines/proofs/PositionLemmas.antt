@@ -36,8 +36,7 @@ use Rattle.timed_machines.specs.NotesKept.{ComesFrom, IsAsleep, KeepsNotes, ende
 use Rattle.timed_machines.specs.TimedCalls.{TimedCall, TimedObject, TimedOut, call_does}
 use Rattle.timed_machines.specs.TimedCalls.{timed_calls}
 use Rattle.timed_machines.specs.TimedCalls.TimedCall.{Plain, Tick, Until}
-use Rattle.timed_machines.specs.TimedEnds.{IsItsDeadline, IsToTell, NoteComes}
-use Rattle.timed_machines.specs.TimedEnds.NoteComes.{IsOwed, IsPending}
+use Rattle.timed_machines.specs.TimedEnds.{EndedByTick, IsItsDeadline}
 use Rattle.timed_machines.proofs.NoteFacts.{holds_more, holds_other}
 
 module _ {At Request Reply Out Object : Type 0} (system : System At Request Reply Out Object)
@@ -117,16 +116,24 @@ module _ {At Request Reply Out Object : Type 0} (system : System At Request Repl
   IsTimerOf pid (Until until (Waits at failed)) t = IsSetFor pid t
   IsTimerOf pid other t = t ≡ timer.Unset
 
-  -- the note of a tick ended its sleep
-  abbrev pub HasNote : Option Fault → Type 0
-  HasNote (Some (fault.Interrupted set)) = holds set Expired ≡ true
-  HasNote other = ⊥
+  -- ---- the note of a tick
+
+  -- the call is a tick that is to tell this process
+  abbrev pub IsToTell : ℕ → TimedCall At Out → Type 0
+  IsToTell pid (Tick now (Telling count to)) = to.0 ≡ pid
+  IsToTell pid other = ⊥
+
+  -- that note is pending at this process, or a tick is about to post it
+  pub data NoteComes (at : Coarse timed) (pid : ℕ) : Type 0 where
+    IsPending : holds (notes_of timed at pid) Expired ≡ true → NoteComes at pid
+    IsOwed : (ticker : ℕ) → ticker < procs system → IsToTell pid (at_of timed at ticker)
+        → NoteComes at pid
 
   -- where a tick took its timer, the note of that tick came, or comes
   abbrev pub IsTold : Coarse timed → ℕ → TimedCall At Out → Timer → Type 0
-  IsTold p pid (Until until (Waits at failed)) timer.Expired = HasNote failed ⊎ NoteComes system p pid
-  IsTold p pid (Until until (Awaits notes ending)) t = NoteComes system p pid
-  IsTold p pid (Until until (Drains notes ending)) t = NoteComes system p pid
+  IsTold p pid (Until until (Waits at failed)) timer.Expired = EndedByTick failed ⊎ NoteComes p pid
+  IsTold p pid (Until until (Awaits notes ending)) t = NoteComes p pid
+  IsTold p pid (Until until (Drains notes ending)) t = NoteComes p pid
   IsTold p pid other t = ⊤
 
   pub record Fine (p : Coarse timed) : Type 0 where
@@ -281,19 +288,19 @@ module _ {At Request Reply Out Object : Type 0} (system : System At Request Repl
       -- one that is owed is owed on, or is pending
       pub owed_on : (does : TimedNext) (now : TimedCall At Out) (other ticker : ℕ)
           → other < procs system → ticker < procs system
-          → IsToTell system other (at_of timed p ticker)
-          → NoteComes system (moved_so p m does now grain) other
+          → IsToTell other (at_of timed p ticker)
+          → NoteComes (moved_so p m does now grain) other
       owed_on does now other ticker within there tells = by (eqb_tells ticker m)
         where
-          posts : (s : TimedCall At Out) → IsToTell system other s
+          posts : (s : TimedCall At Out) → IsToTell other s
               → MayLoosely timed p.object (notes_of timed p m) (call_does system s) grain
-              → NoteComes system (moved_so p m does now grain) other
+              → NoteComes (moved_so p m does now grain) other
           posts (Tick moment (Telling count to)) is can = of grain can is
             where
               of : (g : TimedGrain)
                   → MayLoosely timed p.object (notes_of timed p m) (Next.Post to (only Expired)) g
                   → to.0 ≡ other
-                  → NoteComes system (moved_so p m does now g) other
+                  → NoteComes (moved_so p m does now g) other
               of (Posted whose set) posted to_is =
                   let who : to ≡ whose = cc in
                   let same : only Expired ≡ set = cc in
@@ -314,17 +321,17 @@ module _ {At Request Reply Out Object : Type 0} (system : System At Request Repl
           posts s is can = absurd is
 
           by : ((eqb ticker m ≡ true) × (ticker ≡ m)) ⊎ ((eqb ticker m ≡ false) × (ticker ≢ m))
-              → NoteComes system (moved_so p m does now grain) other
+              → NoteComes (moved_so p m does now grain) other
           by (inl same) =
               posts (at_of timed p m)
-              (subst (λ (q : ℕ). IsToTell system other (at_of timed p q)) same.1 tells) may
+              (subst (λ (q : ℕ). IsToTell other (at_of timed p q)) same.1 tells) may
           by (inr differs) =
-              IsOwed ticker there (subst (IsToTell system other)
+              IsOwed ticker there (subst (IsToTell other)
               (sym (others_now p.states m long now (timed.none) ticker differs.1)) tells)
 
       pub comes_on : (does : TimedNext) (now : TimedCall At Out) (other : ℕ)
-          → other < procs system → (other ≢ m) ⊎ TakesNone grain → NoteComes system p other
-          → NoteComes system (moved_so p m does now grain) other
+          → other < procs system → (other ≢ m) ⊎ TakesNone grain → NoteComes p other
+          → NoteComes (moved_so p m does now grain) other
       comes_on does now other within takes (IsPending has) =
           IsPending (pending_on other takes has)
       comes_on does now other within takes (IsOwed ticker there tells) =

@@ -1,15 +1,24 @@
 -- When calls with deadlines may go on, and where the note of a tick is while a process awaits it.
-use Rattle.std.specs.Prelude.{◌≡◌, ◌<◌, ⊤, ℕ, Bool, true, false}
+use Rattle.std.specs.Prelude.{◌≡◌, ◌⊎◌, ◌<◌, ⊤, ℕ, Bool, true, false, Option, Some, List}
+use Rattle.sync_base.specs.declared.fault.Fault.{Fault}
+use Rattle.sync_base.specs.declared.fault.Fault.TheVariants as fault
 use Rattle.sync_base.specs.declared.ids.RendezId.{RendezId}
 use Rattle.sync_base.specs.declared.note.Note.TheVariants.{Expired}
 use Rattle.sync_base.specs.NoteSet.{holds}
-use Rattle.call_machines.specs.Grain.{Coarse, at_of, notes_of}
+use Rattle.timer_list.specs.declared.timer_object.Timer.{Timer}
+use Rattle.timer_list.specs.declared.timer_object.Timer.TheVariants as timer
+use Rattle.timer_list.specs.Timers.{timer_of}
+use Rattle.call_machines.specs.Grain.{Coarse, Move, at_of, coarse_of, notes_of}
+use Rattle.call_machines.specs.Programs.{Program, ProgramState, goes_in_call, program_system}
+use Rattle.call_machines.specs.Programs.ProgramState.{Ended, In}
 use Rattle.call_machines.specs.Runs.{System, procs}
+use Rattle.call_machines.specs.StrictRuns.{AreLooseMoves}
+use Rattle.timer_machines.specs.Requests.{TimedReply, TimedRequest}
 use Rattle.timer_machines.specs.TickMachine.{asks_on}
 use Rattle.timer_machines.specs.TickMachine.TickState.{Telling}
 use Rattle.timer_machines.specs.TimedMachines.{Deadline}
 use Rattle.timer_machines.specs.TimedMachines.TimedState.{Awaits, Begins, Drains, Waits}
-use Rattle.timed_machines.specs.TimedCalls.{TimedCall, TimedObject, timed_calls}
+use Rattle.timed_machines.specs.TimedCalls.{TimedCall, TimedObject, TimedOut, timed_calls}
 use Rattle.timed_machines.specs.TimedCalls.TimedCall.{Plain, Tick, Until}
 
 -- the process waits by its own timer
@@ -37,27 +46,61 @@ module _ {At Request Reply Out Object : Type 0} (system : System At Request Repl
   timed_goes goes s (Until until (Awaits notes ending)) = true
   timed_goes goes s other = false
 
-  -- ---- the note of a tick
+-- ---- where the note of a tick is
 
-  -- the call is a tick that is to tell this process
-  abbrev pub IsToTell : ℕ → TimedCall At Out → Type 0
-  IsToTell pid (Tick now (Telling count to)) = to.0 ≡ pid
-  IsToTell pid other = ⊥
+-- the note of a tick ended the last sleep of a call, which failed so
+abbrev pub EndedByTick : Option Fault → Type 0
+EndedByTick (Some (fault.Interrupted set)) = holds set Expired ≡ true
+EndedByTick other = ⊥
 
-  -- the call awaits the note of a tick
-  abbrev pub AwaitsNote : TimedCall At Out → Type 0
-  AwaitsNote (Until until (Awaits notes ending)) = ⊤
-  AwaitsNote (Until until (Drains notes ending)) = ⊤
-  AwaitsNote other = ⊥
+module _ {At Request Reply Out Object Place : Type 0}
+    (system : System At Request Reply Out Object)
+    (program : Program Place (TimedCall At Out) (TimedOut Out)) (starts : List (Option Place))
+  where
+  -- processes that run a program of such calls
+  abbrev pub timed_programs : System (ProgramState Place (TimedCall At Out))
+      (TimedRequest Request) (TimedReply Reply) Unit (TimedObject Object)
+  timed_programs = program_system (timed_calls system) program starts
+
+  -- the process ticks, and is to tell that one
+  abbrev pub IsToTell : ℕ → ProgramState Place (TimedCall At Out) → Type 0
+  IsToTell pid (In place (Tick now (Telling count to))) = to.0 ≡ pid
+  IsToTell pid state = ⊥
 
   -- the note of a tick is pending at this process, or a tick is about to post it
-  pub data NoteComes (at : Coarse (timed_calls system)) (pid : ℕ) : Type 0 where
-    IsPending : holds (notes_of (timed_calls system) at pid) Expired ≡ true → NoteComes at pid
-    IsOwed : (ticker : ℕ) → ticker < procs system
-        → IsToTell pid (at_of (timed_calls system) at ticker) → NoteComes at pid
+  pub data NoteComes (at : Coarse timed_programs) (pid : ℕ) : Type 0 where
+    IsPending : holds (notes_of timed_programs at pid) Expired ≡ true → NoteComes at pid
+    IsOwed : (ticker : ℕ) → ticker < procs timed_programs
+        → IsToTell pid (at_of timed_programs at ticker) → NoteComes at pid
 
-  -- whoever awaits the note of a tick gets it
-  abbrev pub AwaitedNotesCome : Coarse (timed_calls system) → Type 0
-  AwaitedNotesCome at =
-      (pid : ℕ) → pid < procs system → AwaitsNote (at_of (timed_calls system) at pid)
-      → NoteComes at pid
+  -- A process whose timer a tick took while it waited was told by the note of that tick, or that
+  -- note comes. To one that awaits it, it comes.
+  abbrev pub IsTold : Coarse timed_programs → ℕ → ProgramState Place (TimedCall At Out) → Timer
+      → Type 0
+  IsTold at pid (In place (Until until (Waits call failed))) timer.Expired =
+      EndedByTick failed ⊎ NoteComes at pid
+  IsTold at pid (In place (Until until (Awaits notes ending))) t = NoteComes at pid
+  IsTold at pid (In place (Until until (Drains notes ending))) t = NoteComes at pid
+  IsTold at pid state t = ⊤
+
+  -- only a process that waits has its timer set, or one that has expired and is not cancelled
+  abbrev pub IsOfWait : ProgramState Place (TimedCall At Out) → Timer → Type 0
+  IsOfWait (In place (Until until (Waits call failed))) t = ⊤
+  IsOfWait state t = t ≡ timer.Unset
+
+  -- what holds of each process and its timer
+  pub record IsTimed (at : Coarse timed_programs) (pid : ℕ) : Type 0 where
+    pub told : IsTold at pid (at_of timed_programs at pid) (timer_of at.object.timers pid)
+    pub of_wait : IsOfWait (at_of timed_programs at pid) (timer_of at.object.timers pid)
+
+  -- it does wherever moves come
+  abbrev pub NotesOfTicksCome : Type 0
+  NotesOfTicksCome =
+      (moves : List (Move (TimedRequest Request) (TimedReply Reply))) (pid : ℕ)
+      → AreLooseMoves timed_programs moves → pid < procs timed_programs
+      → IsTimed (coarse_of timed_programs moves) pid
+
+  -- the object of its call, or the note of a tick, lets a process go on that waits
+  abbrev pub TimedGoOn : (Object → At → Bool) → TimedObject Object
+      → ProgramState Place (TimedCall At Out) → Type 0
+  TimedGoOn goes s state = goes_in_call (timed_goes system goes) s state ≡ true
