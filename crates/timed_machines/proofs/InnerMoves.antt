@@ -7,13 +7,13 @@ use Rattle.call_machines.specs.Ends.{HasEnded}
 use Rattle.call_machines.specs.Grain.{Grain, levels_by, notes_by, object_with, outcome_by, receiver}
 use Rattle.call_machines.specs.Grain.Grain.{Drained, Heard, Noted, Posted, Refused, Returned, Went}
 use Rattle.call_machines.specs.Grain.Grain.{Woken}
-use Rattle.call_machines.specs.Machine.{Next, Outcome, next_with}
+use Rattle.call_machines.specs.Machine.{Next, next_with}
 use Rattle.call_machines.specs.Runs.{System}
 use Rattle.call_machines.specs.StrictRuns.{MayLoosely}
 use Rattle.call_machines.proofs.CoarseLemmas.{comes_loosely}
 use Rattle.sync_base.specs.declared.ids.RendezId.{RendezId}
 use Rattle.timer_machines.specs.Requests.{TimedReply, TimedRequest}
-use Rattle.timer_machines.specs.Requests.TimedReply.{FromDevice, FromTimers}
+use Rattle.timer_machines.specs.Requests.TimedReply.{FromDevice}
 use Rattle.timer_machines.specs.Requests.TimedRequest.{ToDevice, ToTimers}
 use Rattle.timer_machines.specs.TimedMachines.{Deadline, failed_by, goes_within, waits_on}
 use Rattle.timer_machines.specs.TimedMachines.TimedState.{Waits}
@@ -21,7 +21,7 @@ use Rattle.sync_base.specs.declared.fault.Fault.{Fault}
 use Rattle.std.specs.Prelude.{Option}
 use Rattle.timed_machines.specs.TimedCalls.{TimedCall, TimedObject, TimedOut, call_goes_on}
 use Rattle.timed_machines.specs.TimedCalls.{timed_calls}
-use Rattle.timed_machines.specs.TimedCalls.TimedCall.{Plain, Until}
+use Rattle.timed_machines.specs.TimedCalls.TimedCall.{Plain}
 use Rattle.timed_machines.specs.TimedCalls.TimedOut.{FromCall}
 
 module _ {At Request Reply Out Object : Type 0} (system : System At Request Reply Out Object) where

@@ -1,10 +1,9 @@
 -- What a device shows of its calls the system of its calls with deadlines and of ticks shows of its
 -- own: where nobody goes on, nobody awaits the note of a tick.
-use Rattle.std.proofs.Common.{◌≡◌, ◌≢◌, ◌⊎◌, inl, inr, ◌≤◌, ◌<◌, ℕ, Bool, true, false, eqb, Option}
-use Rattle.std.proofs.Common.{Some, None, List, [], length, Result, Ok, Err, refl, sym, ◌∙◌, ap}
-use Rattle.std.proofs.Common.{subst, arith, if◌then◌else◌, ◌&&◌, not}
-use Rattle.std.specs.Prelude.{⊤, map, replicate, slice_index_or, slice_set}
-use Rattle.std.proofs.lemmas.Bool.Decides.{eqb_tells}
+use Rattle.std.proofs.Common.{◌≡◌, ◌≢◌, ◌⊎◌, inl, inr, ◌<◌, ℕ, Bool, true, false, Option}
+use Rattle.std.proofs.Common.{None, List, [], length, Result, Ok, Err, refl, sym, ◌∙◌, ap}
+use Rattle.std.proofs.Common.{subst, arith}
+use Rattle.std.specs.Prelude.{replicate, slice_set}
 use Rattle.std.proofs.lemmas.Bool.{false≢true}
 use Rattle.std.proofs.lemmas.List.{length-map, length-replicate, length-set, set-get_or}
 use Rattle.std.proofs.Math.ListN.{get_or-map}
@@ -15,33 +14,31 @@ use Rattle.sync_base.specs.declared.limits.TheConstants.{TOP_LEVEL}
 use Rattle.sync_base.specs.declared.note.Note.TheVariants.{Expired}
 use Rattle.sync_base.specs.declared.note.NoteSet.{NoteSet}
 use Rattle.sync_base.specs.NoteSet.{holds, joined, no_notes}
-use Rattle.sleep_core.specs.Table.{has_notes}
 use Rattle.timer_list.specs.declared.limits.TheConstants.{LAST_THRESHOLD}
 use Rattle.timer_list.specs.declared.timer_object.Timer.{Timer}
 use Rattle.timer_list.specs.declared.timer_object.Timer.TheVariants as timer
 use Rattle.waiting.specs.declared.wait.WaitEnd.{WaitEnd}
 use Rattle.call_machines.specs.Devices.{Invariant, WholeInvariant, begun}
 use Rattle.call_machines.specs.Ends.{HasEnded}
-use Rattle.call_machines.specs.Grain.{Coarse, Grain, Move, at_of, coarse_of, notes_of}
+use Rattle.call_machines.specs.Grain.{Coarse, at_of, coarse_of, notes_of}
 use Rattle.call_machines.specs.GrainEnds.{IsCoarseStuck, WaitsOn}
 use Rattle.call_machines.specs.Machine.{Next, Outcome, next_with}
 use Rattle.call_machines.specs.Runs.{System, procs, start_of}
 use Rattle.call_machines.specs.StrictRuns.{AreOneWait, AsksAgain, AsksInVain, woken}
 use Rattle.call_machines.proofs.CoarseLemmas.{each, others_now, own_now}
 use Rattle.timer_machines.specs.Requests.{TimedReply, TimedRequest}
-use Rattle.timer_machines.specs.Requests.TimedReply.{FromDevice}
-use Rattle.timer_machines.specs.Requests.TimedRequest.{ToDevice, ToTimers}
-use Rattle.timer_machines.specs.TickMachine.{TickState, asks_on, tick_does}
+use Rattle.timer_machines.specs.Requests.TimedRequest.{ToDevice}
+use Rattle.timer_machines.specs.TickMachine.{TickState}
 use Rattle.timer_machines.specs.TickMachine.TickState.{Asking, Telling, Ticked}
 use Rattle.timer_machines.specs.TimedMachines.{Deadline, TimedState, begins_with, failed_by}
-use Rattle.timer_machines.specs.TimedMachines.{timed_does, waits_with, with_notes}
+use Rattle.timer_machines.specs.TimedMachines.{waits_with, with_notes}
 use Rattle.timer_machines.specs.TimedMachines.TimedState.{Awaits, Begins, Drains, Over, PutsBack}
 use Rattle.timer_machines.specs.TimedMachines.TimedState.{Waits}
 use Rattle.timed_machines.specs.NotesKept.{KeepsNotes}
-use Rattle.timed_machines.specs.TimedCalls.{TimedCall, TimedObject, TimedOut, call_does, call_goes_on}
+use Rattle.timed_machines.specs.TimedCalls.{TimedCall, TimedObject, TimedOut, call_does}
 use Rattle.timed_machines.specs.TimedCalls.{timed_calls}
 use Rattle.timed_machines.specs.TimedCalls.TimedCall.{Plain, Tick, Until}
-use Rattle.timed_machines.specs.TimedCalls.TimedOut.{FromCall, FromTick}
+use Rattle.timed_machines.specs.TimedCalls.TimedOut.{FromCall}
 use Rattle.timed_machines.specs.TimedEnds.{BeginsTimed, timed_goes}
 use Rattle.timed_machines.proofs.PositionLemmas.NoteComes.{IsOwed, IsPending}
 use Rattle.timed_machines.proofs.InnerMoves.{as_next, over_as, sleeps_as}
@@ -163,7 +160,7 @@ module _ {At Request Reply Out Object : Type 0} (system : System At Request Repl
   ended_within (Until until (Over out)) call over show = show
   ended_within (Tick now at) call over show = show
 
-  ended_timer : (pid : ℕ) (s : TimedCall At Out) (t : Timer) → HasEnded (call_does system s)
+  pub ended_timer : (pid : ℕ) (s : TimedCall At Out) (t : Timer) → HasEnded (call_does system s)
       → positions.IsTimerOf system Own Holds pid s t → t ≡ timer.Unset
   ended_timer pid (Until until (Waits at failed)) t over is =
       absurd (waits_on until (does_at at) over)

@@ -2,8 +2,8 @@
 -- moves.
 use Rattle.std.proofs.Common.{◌≡◌, ◌≢◌, ◌⊎◌, inl, inr, ◌≤◌, ◌<◌, ◌+◌, ℕ, Bool, true, false, eqb}
 use Rattle.std.proofs.Common.{Option, Some, None, List, length, Result, Ok, Err, refl, sym, ◌∙◌, ap}
-use Rattle.std.proofs.Common.{subst, arith, zero, suc, nat_lt, if◌then◌else◌, not, ◌&&◌, ◌==◌}
-use Rattle.std.specs.Prelude.{⊤, slice_index, slice_index_or, slice_set}
+use Rattle.std.proofs.Common.{subst, arith, suc, nat_lt, if◌then◌else◌}
+use Rattle.std.specs.Prelude.{slice_set}
 use Rattle.std.proofs.lemmas.Bool.Decides.{eqb_tells, nat_tests}
 use Rattle.std.proofs.lemmas.List.{get_or_past, length-set, set-get_or}
 use Rattle.sync_base.specs.declared.fault.Fault.{Fault}
@@ -18,7 +18,6 @@ use Rattle.timer_list.specs.declared.timer_object.Timer.TheVariants as timer
 use Rattle.timer_list.specs.declared.timer_object.TimerCall.{TimerCall}
 use Rattle.timer_list.specs.declared.timer_object.TimerCall.TheVariants.{Add, Cancel, Expire}
 use Rattle.timer_list.specs.declared.timer_object.TimerReply.{TimerReply}
-use Rattle.timer_list.specs.declared.timer_object.TimerReply.TheVariants as told
 use Rattle.timer_list.specs.Timers.{answer_cancelled, timer_of}
 use Rattle.timer_list.specs.Timers as timing
 use Rattle.timer_list.specs.Timing.{notes_of as ending_notes}
@@ -34,28 +33,28 @@ use Rattle.call_machines.specs.Runs.{System, procs}
 use Rattle.call_machines.specs.StrictRuns.{MayLoosely}
 use Rattle.call_machines.proofs.CoarseLemmas.{comes_loosely, own_now}
 use Rattle.timer_machines.specs.Requests.{TimedReply, TimedRequest}
-use Rattle.timer_machines.specs.Requests.TimedReply.{FromDevice, FromTimers}
-use Rattle.timer_machines.specs.Requests.TimedRequest.{ToDevice, ToTimers}
-use Rattle.timer_machines.specs.TickMachine.{TickState, asks_on, expired, tells, tick_does}
+use Rattle.timer_machines.specs.Requests.TimedReply.{FromTimers}
+use Rattle.timer_machines.specs.Requests.TimedRequest.{ToTimers}
+use Rattle.timer_machines.specs.TickMachine.{TickState, asks_on, expired, tells}
 use Rattle.timer_machines.specs.TickMachine.TickState.{Asking, Telling, Ticked}
 use Rattle.timer_machines.specs.TimedMachines.{Deadline, TimedState, begins_on, begins_with, cancelled}
-use Rattle.timer_machines.specs.TimedMachines.{ended_with, ending_at, ending_of, failed_by}
+use Rattle.timer_machines.specs.TimedMachines.{ended_with, ending_at, ending_of}
 use Rattle.timer_machines.specs.TimedMachines.{goes_within, is_expired, looked, waits_on, waits_with}
 use Rattle.timer_machines.specs.TimedMachines.{timed_does, with_notes}
 use Rattle.timer_list.specs.declared.limits.TheConstants.{LAST_THRESHOLD}
 use Rattle.timer_machines.specs.TimedMachines.TimedState.{Awaits, Begins, Drains, Over, PutsBack}
 use Rattle.timer_machines.specs.TimedMachines.TimedState.{Waits}
-use Rattle.timed_machines.specs.NotesKept.{ComesFrom, IsAsleep, KeepsNotes, ended_by}
+use Rattle.timed_machines.specs.NotesKept.{IsAsleep, KeepsNotes}
 use Rattle.timed_machines.specs.TimedCalls.{TimedCall, TimedObject, TimedOut, call_does, call_goes_on}
 use Rattle.timed_machines.specs.TimedCalls.{timed_calls}
 use Rattle.timed_machines.specs.TimedCalls.TimedCall.{Plain, Tick, Until}
-use Rattle.timed_machines.specs.TimedCalls.TimedOut.{FromCall, FromTick}
+use Rattle.timed_machines.specs.TimedCalls.TimedOut.{FromCall}
 use Rattle.timed_machines.specs.TimedEnds.{EndedByTick}
 use Rattle.timed_machines.proofs.PositionLemmas.NoteComes.{IsOwed, IsPending}
 use Rattle.timed_machines.proofs.InnerMoves.{as_grain, as_next, failed_as, inner_of, levels_as}
 use Rattle.timed_machines.proofs.InnerMoves.{notes_as, object_as, plain_as, receiver_as, waits_as}
 use Rattle.timed_machines.proofs.InnerMoves.{IsInner, within_as}
-use Rattle.timed_machines.proofs.NoteFacts.{holds_more, holds_other, with_notes_cases}
+use Rattle.timed_machines.proofs.NoteFacts.{holds_other, with_notes_cases}
 use Rattle.timed_machines.proofs.PositionLemmas as positions
 use Rattle.timed_machines.proofs.TimerFacts.{Expires, IsChange, added_so, cancelled_so, expires_so}
 use Rattle.timed_machines.proofs.TimerFacts.{set_so, stays_so}
@@ -375,13 +374,18 @@ module _ {At Request Reply Out Object : Type 0} (system : System At Request Repl
         (subst (λ (q : ℕ). q < length p.object.timers) (sym seat_is)
         (subst (λ (n : ℕ). m < n) (sym fine.timers_sized) low))
         (ap (timer_of p.object.timers) seat_is ∙ timer_so (Until until (Begins at)) is)))
-        call (inner_stays same_notes same_long) (show_of (Until until (Begins at)) is)
-        (mine.0, ((record {
-          from = at;
-          times = 0;
-          asleep = (rendez, number, sleeps);
-          comes = refl;
-        }), tt))
+        call (inner_stays same_notes same_long) (show_of (Until until (Begins at)) is) (
+          mine.0,
+          (
+            (record {
+              from = at;
+              times = 0;
+              asleep = (rendez, number, sleeps);
+              comes = refl;
+            }),
+            tt,
+          ),
+        )
         mine.0.deadline.pid_is tt)
       where
         c : TimerCall
@@ -560,9 +564,13 @@ module _ {At Request Reply Out Object : Type 0} (system : System At Request Repl
         (subst (λ (s : TimedState At Out). Settles (as_next system (does_at at)) (Until until s)
         (as_grain system one.own)) (sym (waits_as system until at failed one.own))
         (inner_settles one.own at gone (show_of was is) one.may (subst MayMove one.is may_move)
-        refl
-        (mine.0, (slept_on at (outcome_by one.own) mine.1.0,
-        failed_so at failed one.own one.may mine.1.1))
+        refl (
+          mine.0,
+          (
+            slept_on at (outcome_by one.own) mine.1.0,
+            failed_so at failed one.own one.may mine.1.1,
+          ),
+        )
         (timer_so was is)
         (subst (λ (g : positions.TimedGrain system Own Holds).
         positions.IsTold system Own Holds (now_at (as_next system (does_at at)) gone g) m gone

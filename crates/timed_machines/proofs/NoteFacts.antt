@@ -4,7 +4,7 @@ use Rattle.std.proofs.Common.{if◌then◌else◌}
 use Rattle.sync_base.specs.declared.fault.Fault.{Fault}
 use Rattle.sync_base.specs.declared.note.Note.TheVariants.{Expired}
 use Rattle.sync_base.specs.declared.note.NoteSet.{NoteSet}
-use Rattle.sync_base.specs.NoteSet.{holds, joined, no_notes, only}
+use Rattle.sync_base.specs.NoteSet.{holds, joined, no_notes}
 use Rattle.sleep_core.specs.Table.{has_notes}
 use Rattle.timer_list.specs.Timing.{without_expired}
 use Rattle.waiting.specs.declared.wait.WaitEnd.{WaitEnd}

@@ -1,12 +1,11 @@
 -- What holds of calls with deadlines and of ticks wherever their moves come: the calls within are
 -- as their own system has them, a timer is of the call that set it, and the note of a tick that took
 -- it is on its way.
-use Rattle.std.proofs.Common.{◌≡◌, ◌≢◌, ◌⊎◌, inl, inr, ◌≤◌, ◌<◌, ℕ, Bool, true, false, eqb, Option}
-use Rattle.std.proofs.Common.{Some, None, List, length, Ok, Err, refl, sym, ◌∙◌, ap, subst, zero, suc}
-use Rattle.std.proofs.Common.{arith}
-use Rattle.std.specs.Prelude.{⊤, slice_index, slice_index_or, slice_set}
+use Rattle.std.proofs.Common.{◌≡◌, ◌≢◌, ◌⊎◌, inl, inr, ◌<◌, ℕ, true, false, eqb, Option}
+use Rattle.std.proofs.Common.{Some, List, length, sym, ◌∙◌, ap, subst}
+use Rattle.std.specs.Prelude.{⊤, slice_index_or, slice_set}
 use Rattle.std.proofs.lemmas.Bool.Decides.{eqb_tells}
-use Rattle.std.proofs.lemmas.List.{get_or-set_same, length-set, set-get_or}
+use Rattle.std.proofs.lemmas.List.{get_or-set_same, length-set}
 use Rattle.sleep_core.proofs.ListLemmas.{get_or-set_cases}
 use Rattle.sync_base.specs.declared.fault.Fault.{Fault}
 use Rattle.sync_base.specs.declared.fault.Fault.TheVariants as fault
@@ -17,7 +16,6 @@ use Rattle.sync_base.specs.NoteSet.{holds, joined, no_notes, only}
 use Rattle.timer_list.specs.declared.timer_object.Timer.{Timer}
 use Rattle.timer_list.specs.declared.timer_object.Timer.TheVariants as timer
 use Rattle.timer_list.specs.Timers.{timer_of}
-use Rattle.call_machines.specs.Devices.{Invariant}
 use Rattle.call_machines.specs.Ends.{HasEnded}
 use Rattle.call_machines.specs.Grain.{Coarse, Grain, at_of, levels_by, notes_after, notes_by}
 use Rattle.call_machines.specs.Grain.{notes_of, object_with, receiver}
@@ -28,11 +26,11 @@ use Rattle.call_machines.specs.Runs.{System, procs}
 use Rattle.call_machines.specs.StrictRuns.{MayLoosely}
 use Rattle.call_machines.proofs.CoarseLemmas.{comes_loosely, each, others_now, own_now}
 use Rattle.timer_machines.specs.Requests.{TimedReply, TimedRequest}
-use Rattle.timer_machines.specs.TickMachine.TickState.{Asking, Telling, Ticked}
+use Rattle.timer_machines.specs.TickMachine.TickState.{Telling}
 use Rattle.timer_machines.specs.TimedMachines.{Deadline, TimedState}
-use Rattle.timer_machines.specs.TimedMachines.TimedState.{Awaits, Begins, Drains, Over, PutsBack}
+use Rattle.timer_machines.specs.TimedMachines.TimedState.{Awaits, Begins, Drains}
 use Rattle.timer_machines.specs.TimedMachines.TimedState.{Waits}
-use Rattle.timed_machines.specs.NotesKept.{ComesFrom, IsAsleep, KeepsNotes, ended_by}
+use Rattle.timed_machines.specs.NotesKept.{ComesFrom, IsAsleep, ended_by}
 use Rattle.timed_machines.specs.TimedCalls.{TimedCall, TimedObject, TimedOut, call_does}
 use Rattle.timed_machines.specs.TimedCalls.{timed_calls}
 use Rattle.timed_machines.specs.TimedCalls.TimedCall.{Plain, Tick, Until}

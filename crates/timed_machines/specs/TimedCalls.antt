@@ -5,7 +5,7 @@ use Rattle.std.specs.Prelude.{ℕ, List, map, replicate}
 use Rattle.timer_list.specs.declared.timer_object.Timer.{Timer}
 use Rattle.timer_list.specs.declared.timer_object.Timer.TheVariants.{Unset}
 use Rattle.timer_list.specs.Timers as timing
-use Rattle.call_machines.specs.Machine.{Machine, Next, Outcome, next_with}
+use Rattle.call_machines.specs.Machine.{Next, Outcome, next_with}
 use Rattle.call_machines.specs.Runs.{System, procs}
 use Rattle.timer_machines.specs.Requests.{TimedReply, TimedRequest}
 use Rattle.timer_machines.specs.Requests.TimedReply.{FromDevice, FromTimers}

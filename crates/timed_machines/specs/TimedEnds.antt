@@ -10,7 +10,7 @@ use Rattle.timer_list.specs.declared.timer_object.Timer.TheVariants as timer
 use Rattle.timer_list.specs.Timers.{timer_of}
 use Rattle.call_machines.specs.Grain.{Coarse, Move, at_of, coarse_of, notes_of}
 use Rattle.call_machines.specs.Programs.{Program, ProgramState, goes_in_call, program_system}
-use Rattle.call_machines.specs.Programs.ProgramState.{Ended, In}
+use Rattle.call_machines.specs.Programs.ProgramState.{In}
 use Rattle.call_machines.specs.Runs.{System, procs}
 use Rattle.call_machines.specs.StrictRuns.{AreLooseMoves}
 use Rattle.timer_machines.specs.Requests.{TimedReply, TimedRequest}
@@ -57,50 +57,50 @@ module _ {At Request Reply Out Object Place : Type 0}
     (system : System At Request Reply Out Object)
     (program : Program Place (TimedCall At Out) (TimedOut Out)) (starts : List (Option Place))
   where
-  -- processes that run a program of such calls
-  abbrev pub timed_programs : System (ProgramState Place (TimedCall At Out))
-      (TimedRequest Request) (TimedReply Reply) Unit (TimedObject Object)
-  timed_programs = program_system (timed_calls system) program starts
+    -- processes that run a program of such calls
+    abbrev pub timed_programs : System (ProgramState Place (TimedCall At Out))
+        (TimedRequest Request) (TimedReply Reply) Unit (TimedObject Object)
+    timed_programs = program_system (timed_calls system) program starts
 
-  -- the process ticks, and is to tell that one
-  abbrev pub IsToTell : ℕ → ProgramState Place (TimedCall At Out) → Type 0
-  IsToTell pid (In place (Tick now (Telling count to))) = to.0 ≡ pid
-  IsToTell pid state = ⊥
+    -- the process ticks, and is to tell that one
+    abbrev pub IsToTell : ℕ → ProgramState Place (TimedCall At Out) → Type 0
+    IsToTell pid (In place (Tick now (Telling count to))) = to.0 ≡ pid
+    IsToTell pid state = ⊥
 
-  -- the note of a tick is pending at this process, or a tick is about to post it
-  pub data NoteComes (at : Coarse timed_programs) (pid : ℕ) : Type 0 where
-    IsPending : holds (notes_of timed_programs at pid) Expired ≡ true → NoteComes at pid
-    IsOwed : (ticker : ℕ) → ticker < procs timed_programs
-        → IsToTell pid (at_of timed_programs at ticker) → NoteComes at pid
+    -- the note of a tick is pending at this process, or a tick is about to post it
+    pub data NoteComes (at : Coarse timed_programs) (pid : ℕ) : Type 0 where
+      IsPending : holds (notes_of timed_programs at pid) Expired ≡ true → NoteComes at pid
+      IsOwed : (ticker : ℕ) → ticker < procs timed_programs
+          → IsToTell pid (at_of timed_programs at ticker) → NoteComes at pid
 
-  -- A process whose timer a tick took while it waited was told by the note of that tick, or that
-  -- note comes. To one that awaits it, it comes.
-  abbrev pub IsTold : Coarse timed_programs → ℕ → ProgramState Place (TimedCall At Out) → Timer
-      → Type 0
-  IsTold at pid (In place (Until until (Waits call failed))) timer.Expired =
-      EndedByTick failed ⊎ NoteComes at pid
-  IsTold at pid (In place (Until until (Awaits notes ending))) t = NoteComes at pid
-  IsTold at pid (In place (Until until (Drains notes ending))) t = NoteComes at pid
-  IsTold at pid state t = ⊤
+    -- A process whose timer a tick took while it waited was told by the note of that tick, or that
+    -- note comes. To one that awaits it, it comes.
+    abbrev pub IsTold : Coarse timed_programs → ℕ → ProgramState Place (TimedCall At Out) → Timer
+        → Type 0
+    IsTold at pid (In place (Until until (Waits call failed))) timer.Expired =
+        EndedByTick failed ⊎ NoteComes at pid
+    IsTold at pid (In place (Until until (Awaits notes ending))) t = NoteComes at pid
+    IsTold at pid (In place (Until until (Drains notes ending))) t = NoteComes at pid
+    IsTold at pid state t = ⊤
 
-  -- only a process that waits has its timer set, or one that has expired and is not cancelled
-  abbrev pub IsOfWait : ProgramState Place (TimedCall At Out) → Timer → Type 0
-  IsOfWait (In place (Until until (Waits call failed))) t = ⊤
-  IsOfWait state t = t ≡ timer.Unset
+    -- only a process that waits has its timer set, or one that has expired and is not cancelled
+    abbrev pub IsOfWait : ProgramState Place (TimedCall At Out) → Timer → Type 0
+    IsOfWait (In place (Until until (Waits call failed))) t = ⊤
+    IsOfWait state t = t ≡ timer.Unset
 
-  -- what holds of each process and its timer
-  pub record IsTimed (at : Coarse timed_programs) (pid : ℕ) : Type 0 where
-    pub told : IsTold at pid (at_of timed_programs at pid) (timer_of at.object.timers pid)
-    pub of_wait : IsOfWait (at_of timed_programs at pid) (timer_of at.object.timers pid)
+    -- what holds of each process and its timer
+    pub record IsTimed (at : Coarse timed_programs) (pid : ℕ) : Type 0 where
+      pub told : IsTold at pid (at_of timed_programs at pid) (timer_of at.object.timers pid)
+      pub of_wait : IsOfWait (at_of timed_programs at pid) (timer_of at.object.timers pid)
 
-  -- it does wherever moves come
-  abbrev pub NotesOfTicksCome : Type 0
-  NotesOfTicksCome =
-      (moves : List (Move (TimedRequest Request) (TimedReply Reply))) (pid : ℕ)
-      → AreLooseMoves timed_programs moves → pid < procs timed_programs
-      → IsTimed (coarse_of timed_programs moves) pid
+    -- it does wherever moves come
+    abbrev pub NotesOfTicksCome : Type 0
+    NotesOfTicksCome =
+        (moves : List (Move (TimedRequest Request) (TimedReply Reply))) (pid : ℕ)
+        → AreLooseMoves timed_programs moves → pid < procs timed_programs
+        → IsTimed (coarse_of timed_programs moves) pid
 
-  -- the object of its call, or the note of a tick, lets a process go on that waits
-  abbrev pub TimedGoOn : (Object → At → Bool) → TimedObject Object
-      → ProgramState Place (TimedCall At Out) → Type 0
-  TimedGoOn goes s state = goes_in_call (timed_goes system goes) s state ≡ true
+    -- the object of its call, or the note of a tick, lets a process go on that waits
+    abbrev pub TimedGoOn : (Object → At → Bool) → TimedObject Object
+        → ProgramState Place (TimedCall At Out) → Type 0
+    TimedGoOn goes s state = goes_in_call (timed_goes system goes) s state ≡ true
