@@ -15,16 +15,18 @@ use Rattle.sync_base.specs.declared.limits.TheConstants.{TOP_LEVEL}
 use Rattle.sync_base.specs.declared.ids.Pid.{Pid}
 use Rattle.sync_base.specs.declared.note.NoteSet.{NoteSet}
 use Rattle.sync_base.specs.NoteSet.{no_notes}
-use Rattle.call_machines.specs.Devices.{WholeInvariant}
+use Rattle.call_machines.specs.Devices.{AsksIdly, IsStuckBut, WholeInvariant}
 use Rattle.call_machines.specs.Ends.{HasEnded, IsOver, NoRunDeadlocks}
 use Rattle.call_machines.specs.Grain.{Coarse, Grain, Move, at_of, coarse_of}
 use Rattle.call_machines.specs.Grain.{levels_by, moved, notes_after, notes_of, object_with}
 use Rattle.call_machines.specs.Grain.{outcome_by}
 use Rattle.call_machines.specs.Grain.Grain.{Drained, Heard, Noted, Posted, Refused, Returned, Went}
 use Rattle.call_machines.specs.Grain.Grain.{Woken}
-use Rattle.call_machines.specs.GrainEnds.{AreApart, AreBelowTop, IsCoarseStuck, SleepsAfter}
+use Rattle.call_machines.specs.GrainEnds.{AreApart, AreBelowTop, SleepsAfter}
 use Rattle.call_machines.specs.GrainEnds.{WaitsOn}
 use Rattle.call_machines.specs.GrainEnds.{WakeupsAreDue}
+use Rattle.call_machines.specs.IdleRuns.{IdleStopAtRest, IdleStuckAtRest, Idles, IsIdleStuck}
+use Rattle.call_machines.specs.IdleRuns.{WakeupsAreDueIdle}
 use Rattle.call_machines.specs.Machine.{Next, Outcome}
 use Rattle.call_machines.specs.Programs.{ComesTo, EachBegins, Program, ProgramState, at_place}
 use Rattle.call_machines.specs.Programs.{follows, goes_in_call, program_goes_on, program_system}
@@ -37,6 +39,7 @@ use Rattle.call_machines.specs.StrictRuns.{AreLooseMoves, AsksAgainAtRest, MayLo
 use Rattle.call_machines.specs.StrictRuns.{SleepsOn, WaitsAskAtRest, woken}
 use Rattle.call_machines.specs.Programs.{rests_at}
 use Rattle.call_machines.proofs.CoarseLemmas.{all_loosely}
+use Rattle.call_machines.proofs.StrictLemmas.{idle_rests_hold}
 use Rattle.call_machines.proofs.StrictLemmas.{over_at_rest, strict_rests_hold, such_rests_hold}
 
 module _ {At Request Reply Out Object Place : Type 0} (calls : System At Request Reply Out Object)
@@ -189,9 +192,10 @@ module _ {At Request Reply Out Object Place : Type 0} (calls : System At Request
   shown p states =
       record { object = p.object; states = states; notes = p.notes; levels = p.levels }
 
-  module _ (goes : Object → At → Bool) (Begins : ℕ → At → Type 0)
+  module _ (goes : Object → At → Bool) (MayIdle : At → Type 0) (Begins : ℕ → At → Type 0)
       (Own : ℕ → RendezId → Type 0) (Holds : Coarse calls → Type 0)
-      (invariant : WholeInvariant calls (λ object at. goes object at ≡ true) Begins Own Holds)
+      (invariant : WholeInvariant calls (λ object at. goes object at ≡ true) MayIdle Begins Own
+      Holds)
       (many : length starts ≡ procs calls) (begin : EachBegins program Begins starts) where
     abbrev pub state_at : List At → ℕ → At
     state_at states pid = slice_index_or states pid calls.none
@@ -575,8 +579,19 @@ module _ {At Request Reply Out Object Place : Type 0} (calls : System At Request
           low = on.low;
         }
 
-    stuck_so : (p : Coarse whole) (fine : Fine p) → IsCoarseStuck whole p
-        → IsCoarseStuck calls (shown p fine.states)
+    -- a process idles in a call that may
+    abbrev pub MayIdleIn : ProgramState Place At → Type 0
+    MayIdleIn (In place at) = MayIdle at
+    MayIdleIn Ended = ⊥
+
+    asks_same : (does : Next Request Out) (request : Request)
+        → with_call calls program does ≡ Next.Ask request → does ≡ Next.Ask request
+    asks_same (Next.Ask own) request is =
+        let same : own ≡ request = cc in ap (λ (r : Request). Next.Ask r) same
+    asks_same other request is = absurd cc
+
+    stuck_so : (p : Coarse whole) (fine : Fine p) → IsIdleStuck whole MayIdleIn p
+        → IsStuckBut calls MayIdle (shown p fine.states)
     stuck_so p fine stuck pid low = by (stuck pid (subst (λ (n : ℕ). pid < n) (sym as_many) low))
       where
         ended : (s : ProgramState Place At) → IsShown s (state_at fine.states pid)
@@ -587,18 +602,32 @@ module _ {At Request Reply Out Object Place : Type 0} (calls : System At Request
             (over_same (calls.machine.does at) over)
         ended Ended show over = show
 
-        by : HasEnded (whole.machine.does (at_of whole p pid)) ⊎ WaitsOn whole p pid
+        idly : (s : ProgramState Place At) → IsShown s (state_at fine.states pid) → MayIdleIn s
+            → (request : Request) → whole.machine.does s ≡ Next.Ask request
+            → AsksIdly calls MayIdle (state_at fine.states pid)
+        idly (In place at) show may request asks =
+            subst (AsksIdly calls MayIdle) (sym show)
+            (may, (request, asks_same (calls.machine.does at) request asks))
+        idly Ended show may request asks = absurd may
+
+        by : HasEnded (whole.machine.does (at_of whole p pid))
+            ⊎ (WaitsOn whole p pid ⊎ Idles whole MayIdleIn p.object (at_of whole p pid))
             → HasEnded (calls.machine.does (at_of calls (shown p fine.states) pid))
-            ⊎ WaitsOn calls (shown p fine.states) pid
+            ⊎ (WaitsOn calls (shown p fine.states) pid
+            ⊎ AsksIdly calls MayIdle (at_of calls (shown p fine.states) pid))
         by (inl over) = inl (ended (at_of whole p pid) (fine.show pid low) over)
-        by (inr on) = inr (waits_so p fine pid low on)
+        by (inr (inl on)) = inr (inl (waits_so p fine pid low on))
+        by (inr (inr idles)) =
+            inr (inr (idly (at_of whole p pid) (fine.show pid low) idles.may idles.request
+            idles.asks))
 
     abbrev pub GoesOn : Object → ProgramState Place At → Type 0
     GoesOn object state = goes_in_call goes object state ≡ true
 
-    -- where no process goes on, nobody waits whom the object would let go on
-    pub due : WakeupsAreDue whole GoesOn
-    due moves all stuck pid within on goes_on =
+    -- where no process goes on, but for those that idle, nobody waits whom the object would let go
+    -- on
+    pub due_idle : WakeupsAreDueIdle whole MayIdleIn GoesOn
+    due_idle moves all stuck pid within on goes_on =
         let p = coarse_of whole moves in
         let fine = fine_after moves (all_loosely whole moves all) in
         let low = few pid within in
@@ -607,6 +636,19 @@ module _ {At Request Reply Out Object Place : Type 0} (calls : System At Request
         (waits_so p fine pid low on)
         (subst (λ (a : At). goes p.object a ≡ true) (sym so.call_is)
         (subst (GoesOn p.object) so.is goes_on))
+
+    -- so where none goes on at all
+    pub due : WakeupsAreDue whole GoesOn
+    due moves all stuck = due_idle moves all (λ pid low. of pid (stuck pid low))
+      where
+        of : (pid : ℕ) → HasEnded (whole.machine.does (at_of whole (coarse_of whole moves) pid))
+            ⊎ WaitsOn whole (coarse_of whole moves) pid
+            → HasEnded (whole.machine.does (at_of whole (coarse_of whole moves) pid))
+            ⊎ (WaitsOn whole (coarse_of whole moves) pid
+            ⊎ Idles whole MayIdleIn (coarse_of whole moves).object
+            (at_of whole (coarse_of whole moves) pid))
+        of pid (inl over) = inl over
+        of pid (inr on) = inr (inl on)
 
     -- a call that asks or sleeps is followed by no other
     asks_so : (place : Place) (s : At) (request : Request)
@@ -748,3 +790,12 @@ module _ {At Request Reply Out Object Place : Type 0} (calls : System At Request
     such_programs_rest Comes served apart never =
         such_rests_hold whole GoesOn (RestsAt served) Comes (are_apart apart) below_top due
         (again_at_rest served) never
+
+    -- and of runs that have stopped but for processes that idle
+    pub idle_programs_rest : (Comes : Request → Reply → Type 0) (served : Place → Bool)
+        → ((pid other : ℕ) (rendez : RendezId) → Own pid rendez → Own other rendez → pid ≡ other)
+        → IdleStuckAtRest whole MayIdleIn Comes (RestsAt served) GoesOn
+        → IdleStopAtRest whole MayIdleIn Comes (RestsAt served)
+    idle_programs_rest Comes served apart never =
+        idle_rests_hold whole MayIdleIn GoesOn (RestsAt served) Comes (are_apart apart) below_top
+        due_idle (again_at_rest served) never
