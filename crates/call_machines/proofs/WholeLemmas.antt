@@ -29,7 +29,7 @@ use Rattle.call_machines.specs.IdleRuns.{IdleStopAtRest, IdleStuckAtRest, Idles,
 use Rattle.call_machines.specs.IdleRuns.{WakeupsAreDueIdle}
 use Rattle.call_machines.specs.Machine.{Next, Outcome}
 use Rattle.call_machines.specs.Programs.{ComesTo, EachBegins, Program, ProgramState, at_place}
-use Rattle.call_machines.specs.Programs.{follows, goes_in_call, program_goes_on, program_system}
+use Rattle.call_machines.specs.Programs.{MayIdleIn, follows, goes_in_call, program_goes_on, program_system}
 use Rattle.call_machines.specs.Programs.{with_call}
 use Rattle.call_machines.specs.Programs.ProgramState.{Ended, In}
 use Rattle.call_machines.specs.Replies.{SuchStopAtRest, SuchStuckAtRest}
@@ -579,18 +579,13 @@ module _ {At Request Reply Out Object Place : Type 0} (calls : System At Request
           low = on.low;
         }
 
-    -- a process idles in a call that may
-    abbrev pub MayIdleIn : ProgramState Place At → Type 0
-    MayIdleIn (In place at) = MayIdle at
-    MayIdleIn Ended = ⊥
-
     asks_same : (does : Next Request Out) (request : Request)
         → with_call calls program does ≡ Next.Ask request → does ≡ Next.Ask request
     asks_same (Next.Ask own) request is =
         let same : own ≡ request = cc in ap (λ (r : Request). Next.Ask r) same
     asks_same other request is = absurd cc
 
-    stuck_so : (p : Coarse whole) (fine : Fine p) → IsIdleStuck whole MayIdleIn p
+    stuck_so : (p : Coarse whole) (fine : Fine p) → IsIdleStuck whole (MayIdleIn MayIdle) p
         → IsStuckBut calls MayIdle (shown p fine.states)
     stuck_so p fine stuck pid low = by (stuck pid (subst (λ (n : ℕ). pid < n) (sym as_many) low))
       where
@@ -602,7 +597,7 @@ module _ {At Request Reply Out Object Place : Type 0} (calls : System At Request
             (over_same (calls.machine.does at) over)
         ended Ended show over = show
 
-        idly : (s : ProgramState Place At) → IsShown s (state_at fine.states pid) → MayIdleIn s
+        idly : (s : ProgramState Place At) → IsShown s (state_at fine.states pid) → MayIdleIn MayIdle s
             → (request : Request) → whole.machine.does s ≡ Next.Ask request
             → AsksIdly calls MayIdle (state_at fine.states pid)
         idly (In place at) show may request asks =
@@ -611,7 +606,7 @@ module _ {At Request Reply Out Object Place : Type 0} (calls : System At Request
         idly Ended show may request asks = absurd may
 
         by : HasEnded (whole.machine.does (at_of whole p pid))
-            ⊎ (WaitsOn whole p pid ⊎ Idles whole MayIdleIn p.object (at_of whole p pid))
+            ⊎ (WaitsOn whole p pid ⊎ Idles whole (MayIdleIn MayIdle) p.object (at_of whole p pid))
             → HasEnded (calls.machine.does (at_of calls (shown p fine.states) pid))
             ⊎ (WaitsOn calls (shown p fine.states) pid
             ⊎ AsksIdly calls MayIdle (at_of calls (shown p fine.states) pid))
@@ -626,7 +621,7 @@ module _ {At Request Reply Out Object Place : Type 0} (calls : System At Request
 
     -- where no process goes on, but for those that idle, nobody waits whom the object would let go
     -- on
-    pub due_idle : WakeupsAreDueIdle whole MayIdleIn GoesOn
+    pub due_idle : WakeupsAreDueIdle whole (MayIdleIn MayIdle) GoesOn
     due_idle moves all stuck pid within on goes_on =
         let p = coarse_of whole moves in
         let fine = fine_after moves (all_loosely whole moves all) in
@@ -645,7 +640,7 @@ module _ {At Request Reply Out Object Place : Type 0} (calls : System At Request
             ⊎ WaitsOn whole (coarse_of whole moves) pid
             → HasEnded (whole.machine.does (at_of whole (coarse_of whole moves) pid))
             ⊎ (WaitsOn whole (coarse_of whole moves) pid
-            ⊎ Idles whole MayIdleIn (coarse_of whole moves).object
+            ⊎ Idles whole (MayIdleIn MayIdle) (coarse_of whole moves).object
             (at_of whole (coarse_of whole moves) pid))
         of pid (inl over) = inl over
         of pid (inr on) = inr (inl on)
@@ -794,8 +789,8 @@ module _ {At Request Reply Out Object Place : Type 0} (calls : System At Request
     -- and of runs that have stopped but for processes that idle
     pub idle_programs_rest : (Comes : Request → Reply → Type 0) (served : Place → Bool)
         → ((pid other : ℕ) (rendez : RendezId) → Own pid rendez → Own other rendez → pid ≡ other)
-        → IdleStuckAtRest whole MayIdleIn Comes (RestsAt served) GoesOn
-        → IdleStopAtRest whole MayIdleIn Comes (RestsAt served)
+        → IdleStuckAtRest whole (MayIdleIn MayIdle) Comes (RestsAt served) GoesOn
+        → IdleStopAtRest whole (MayIdleIn MayIdle) Comes (RestsAt served)
     idle_programs_rest Comes served apart never =
-        idle_rests_hold whole MayIdleIn GoesOn (RestsAt served) Comes (are_apart apart) below_top
+        idle_rests_hold whole (MayIdleIn MayIdle) GoesOn (RestsAt served) Comes (are_apart apart) below_top
         due_idle (again_at_rest served) never

@@ -18,7 +18,7 @@ use Rattle.timer_list.specs.declared.limits.TheConstants.{LAST_THRESHOLD}
 use Rattle.timer_list.specs.declared.timer_object.Timer.{Timer}
 use Rattle.timer_list.specs.declared.timer_object.Timer.TheVariants as timer
 use Rattle.waiting.specs.declared.wait.WaitEnd.{WaitEnd}
-use Rattle.call_machines.specs.Devices.{Invariant, WholeInvariant, begun}
+use Rattle.call_machines.specs.Devices.{AsksIdly, Invariant, IsStuckBut, WholeInvariant, begun}
 use Rattle.call_machines.specs.Ends.{HasEnded}
 use Rattle.call_machines.specs.Grain.{Coarse, at_of, coarse_of, notes_of}
 use Rattle.call_machines.specs.GrainEnds.{IsCoarseStuck, WaitsOn}
@@ -39,7 +39,7 @@ use Rattle.timed_machines.specs.TimedCalls.{TimedCall, TimedObject, TimedOut, ca
 use Rattle.timed_machines.specs.TimedCalls.{timed_calls}
 use Rattle.timed_machines.specs.TimedCalls.TimedCall.{Plain, Tick, Until}
 use Rattle.timed_machines.specs.TimedCalls.TimedOut.{FromCall}
-use Rattle.timed_machines.specs.TimedEnds.{BeginsTimed, timed_goes}
+use Rattle.timed_machines.specs.TimedEnds.{BeginsTimed, IsTick, timed_goes}
 use Rattle.timed_machines.proofs.PositionLemmas.NoteComes.{IsOwed, IsPending}
 use Rattle.timed_machines.proofs.InnerMoves.{as_next, over_as, sleeps_as}
 use Rattle.timed_machines.proofs.MoveLemmas as moves
@@ -392,7 +392,7 @@ module _ {At Request Reply Out Object : Type 0} (system : System At Request Repl
 
     -- ---- where nobody goes on
 
-    stuck_within : IsCoarseStuck timed p → IsCoarseStuck system within
+    stuck_within : IsStuckBut timed IsTick p → IsCoarseStuck system within
     stuck_within stuck pid low = of (stuck pid (many pid low))
       where
         waits : (on : WaitsOn timed p pid) → Sleeps on.rendez on.number (at_of timed p pid)
@@ -416,29 +416,45 @@ module _ {At Request Reply Out Object : Type 0} (system : System At Request Repl
         waits on (ForNote until notes ending is rendez_is number_is) =
             inl (show_of pid low (Until until (Awaits notes ending)) is)
 
-        of : HasEnded (call_does system (at_of timed p pid)) ⊎ WaitsOn timed p pid
+        ticks : (s : TimedCall At Out) → IsTick s → positions.IsShown system Own Holds s (call_of pid)
+            → HasEnded (does_at (call_of pid))
+        ticks (Tick now at) tick show = show
+        ticks s tick show = absurd tick
+
+        of : HasEnded (call_does system (at_of timed p pid))
+            ⊎ (WaitsOn timed p pid ⊎ AsksIdly timed IsTick (at_of timed p pid))
             → HasEnded (does_at (call_of pid)) ⊎ WaitsOn system within pid
         of (inl ended) =
             inl (ended_within (at_of timed p pid) (call_of pid) ended (fine.show pid low))
-        of (inr on) =
+        of (inr (inl on)) =
             waits on (sleeps_so on.rendez on.number (at_of timed p pid) on.does)
+        of (inr (inr idly)) = inl (ticks (at_of timed p pid) idly.0 (fine.show pid low))
 
     -- who is to tell goes on
-    tells_now : IsCoarseStuck timed p → (pid ticker : ℕ) → ticker < procs system
+    tells_now : IsStuckBut timed IsTick p → (pid ticker : ℕ) → ticker < procs system
         → positions.IsToTell system Own Holds pid (at_of timed p ticker) → ⊥
     tells_now stuck pid ticker there tells = of (stuck ticker (many ticker there))
       where
-        asleep : (rendez : RendezId) (number : ℕ) (s : TimedCall At Out) → positions.IsToTell system Own Holds pid s
+        asleep : (rendez : RendezId) (number : ℕ) (s : TimedCall At Out)
+            → positions.IsToTell system Own Holds pid s
             → call_does system s ≡ Next.Sleep rendez number → ⊥
         asleep rendez number (Tick now (Telling count to)) to_tell is = cc
         asleep rendez number s to_tell is = absurd to_tell
 
-        of : HasEnded (call_does system (at_of timed p ticker)) ⊎ WaitsOn timed p ticker → ⊥
+        asks : (request : TimedRequest Request) (s : TimedCall At Out)
+            → positions.IsToTell system Own Holds pid s
+            → call_does system s ≡ Next.Ask request → ⊥
+        asks request (Tick now (Telling count to)) to_tell is = cc
+        asks request s to_tell is = absurd to_tell
+
+        of : HasEnded (call_does system (at_of timed p ticker))
+            ⊎ (WaitsOn timed p ticker ⊎ AsksIdly timed IsTick (at_of timed p ticker)) → ⊥
         of (inl ended) = tells_on pid (at_of timed p ticker) tells ended
-        of (inr on) = asleep on.rendez on.number (at_of timed p ticker) tells on.does
+        of (inr (inl on)) = asleep on.rendez on.number (at_of timed p ticker) tells on.does
+        of (inr (inr idly)) = asks idly.1.0 (at_of timed p ticker) tells idly.1.1
 
     -- so nobody waits whom its object lets go on, and nobody awaits the note of a tick
-    none_waits : (pid : ℕ) → IsCoarseStuck timed p → pid < procs system → (on : WaitsOn timed p pid)
+    none_waits : (pid : ℕ) → IsStuckBut timed IsTick p → pid < procs system → (on : WaitsOn timed p pid)
         → TimedGoes p.object (at_of timed p pid) → Sleeps on.rendez on.number (at_of timed p pid)
         → ⊥
     none_waits pid stuck low on goes_on (InPlain at is does) =
@@ -591,7 +607,7 @@ module _ {At Request Reply Out Object : Type 0} (system : System At Request Repl
         (sleeps_on until notes ending (mine_of pid low (Until until (Awaits notes ending)) is).1))
 
   -- so the system with timers shows it too
-  pub timed_invariant : WholeInvariant timed TimedGoes (BeginsTimed system BeginsBy WaitsIn) Own
+  pub timed_invariant : WholeInvariant timed TimedGoes IsTick (BeginsTimed system BeginsBy WaitsIn) Own
       Fine
   timed_invariant =
       record {

@@ -22,7 +22,8 @@ use Rattle.timed_machines.specs.NotesKept.{KeepsNotes}
 use Rattle.timed_machines.specs.TimedCalls.{TimedCall, TimedObject, TimedOut, call_does}
 use Rattle.timed_machines.specs.TimedCalls.{timed_calls}
 use Rattle.timed_machines.specs.TimedCalls.TimedCall.{Plain, Tick, Until}
-use Rattle.timed_machines.specs.TimedEnds.{BeginsTimed, IsOfWait, IsTimed, IsTold, IsToTell, NoteComes}
+use Rattle.timed_machines.specs.TimedEnds.{BeginsTimed, IsOfWait, IsTick, IsTimed, IsTold, IsToTell}
+use Rattle.timed_machines.specs.TimedEnds.{NoteComes}
 use Rattle.timed_machines.specs.TimedEnds.{NotesOfTicksCome, timed_goes, timed_programs}
 use Rattle.timed_machines.specs.TimedEnds.NoteComes.{IsOwed, IsPending}
 use Rattle.timed_machines.proofs.InvariantLemmas as timed_lemmas
@@ -45,7 +46,7 @@ module _ {At Request Reply Out Object Place : Type 0} (system : System At Reques
 
   abbrev FineIn : Coarse whole → Type 0
   FineIn p =
-      wholes.Fine (timed_calls system) program starts (timed_goes system goes)
+      wholes.Fine (timed_calls system) program starts (timed_goes system goes) IsTick
       (BeginsTimed system BeginsBy WaitsIn) Own (positions.Fine system Own Holds)
       (timed_lemmas.timed_invariant system goes BeginsBy WaitsIn Own Holds invariant keeps
       own_rendez) many begin p
@@ -168,7 +169,7 @@ module _ {At Request Reply Out Object Place : Type 0} (system : System At Reques
   -- wherever moves come
   pub notes_come : NotesOfTicksCome system program starts
   notes_come moves pid all low =
-      let fine = wholes.fine_after (timed_calls system) program starts (timed_goes system goes)
+      let fine = wholes.fine_after (timed_calls system) program starts (timed_goes system goes) IsTick
       (BeginsTimed system BeginsBy WaitsIn) Own (positions.Fine system Own Holds)
       (timed_lemmas.timed_invariant system goes BeginsBy WaitsIn Own Holds invariant keeps
       own_rendez) many begin moves all in

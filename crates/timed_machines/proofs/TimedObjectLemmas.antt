@@ -14,10 +14,11 @@ use Rattle.object_machines.specs.ObjectEnds.{BeginsBy, WaitsIn, goes_on}
 use Rattle.object_machines.proofs.ObjectLemmas.{objects_show}
 use Rattle.timed_machines.specs.TimedCalls.{timed_calls}
 use Rattle.timed_machines.specs.TimedCalls.TimedCall.{Plain}
-use Rattle.timed_machines.specs.TimedEnds.{BeginsTimed, timed_goes}
+use Rattle.timed_machines.specs.TimedEnds.{BeginsTimed, IsTick, timed_goes}
 use Rattle.timed_machines.specs.TimedObjects.{AreTimedPrograms, LeavesTimedUnworn, TicksTellEach}
 use Rattle.timed_machines.specs.TimedObjects.{TimedObjectCall, TimedObjectOut, TimedObjectsEndHold}
-use Rattle.timed_machines.specs.TimedObjects.{TimedObjectsRestHold, TimedWakeupsAreDue}
+use Rattle.timed_machines.specs.TimedObjects.{TimedObjectsIdleHold, TimedObjectsRestHold}
+use Rattle.timed_machines.specs.TimedObjects.{TimedWakeupsAreDue}
 use Rattle.timed_machines.proofs.InvariantLemmas.{timed_invariant}
 use Rattle.timed_machines.proofs.ObjectNotes.{keeps_notes}
 use Rattle.timed_machines.proofs.ProgramTimers.{notes_come}
@@ -46,7 +47,7 @@ pub timed_wakeups_are_due : WaitersAreNamedAbove → StatesAreSound → (Place :
 timed_wakeups_are_due above sound Place objects program starts are =
     let so = objects_show above sound objects are.world in
     wholes.due (timed_calls (object_calls objects)) program starts
-    (timed_goes (object_calls objects) (goes_on objects))
+    (timed_goes (object_calls objects) (goes_on objects)) IsTick
     (BeginsTimed (object_calls objects) (BeginsBy objects) (WaitsIn objects)) _ _
     (timed_invariant (object_calls objects) (goes_on objects) (BeginsBy objects) (WaitsIn objects)
     so.own so.holds so.shown (keeps_notes objects) so.waits)
@@ -58,7 +59,7 @@ pub timed_objects_end_hold : WaitersAreNamedAbove → StatesAreSound → (Place 
 timed_objects_end_hold above sound Place objects program starts are =
     let so = objects_show above sound objects are.world in
     wholes.programs_end (timed_calls (object_calls objects)) program starts
-    (timed_goes (object_calls objects) (goes_on objects))
+    (timed_goes (object_calls objects) (goes_on objects)) IsTick
     (BeginsTimed (object_calls objects) (BeginsBy objects) (WaitsIn objects)) _ _
     (timed_invariant (object_calls objects) (goes_on objects) (BeginsBy objects) (WaitsIn objects)
     so.own so.holds so.shown (keeps_notes objects) so.waits)
@@ -70,7 +71,19 @@ pub timed_objects_rest_hold : WaitersAreNamedAbove → StatesAreSound → (Place
 timed_objects_rest_hold above sound Place objects program starts served are =
     let so = objects_show above sound objects are.world in
     wholes.such_programs_rest (timed_calls (object_calls objects)) program starts
-    (timed_goes (object_calls objects) (goes_on objects))
+    (timed_goes (object_calls objects) (goes_on objects)) IsTick
+    (BeginsTimed (object_calls objects) (BeginsBy objects) (WaitsIn objects)) _ _
+    (timed_invariant (object_calls objects) (goes_on objects) (BeginsBy objects) (WaitsIn objects)
+    so.own so.holds so.shown (keeps_notes objects) so.waits)
+    (many objects program starts are) are.begin LeavesTimedUnworn served so.apart
+
+-- and so where processes tick for ever
+pub timed_objects_idle_hold : WaitersAreNamedAbove → StatesAreSound → (Place : Type 0)
+    → TimedObjectsIdleHold Place
+timed_objects_idle_hold above sound Place objects program starts served are =
+    let so = objects_show above sound objects are.world in
+    wholes.idle_programs_rest (timed_calls (object_calls objects)) program starts
+    (timed_goes (object_calls objects) (goes_on objects)) IsTick
     (BeginsTimed (object_calls objects) (BeginsBy objects) (WaitsIn objects)) _ _
     (timed_invariant (object_calls objects) (goes_on objects) (BeginsBy objects) (WaitsIn objects)
     so.own so.holds so.shown (keeps_notes objects) so.waits)

@@ -26,6 +26,11 @@ pub record IsItsDeadline (pid : ℕ) (until : Deadline) : Type 0 where
   pub pid_is : until.pid.0 ≡ pid
   pub seat_is : until.seat ≡ pid
 
+-- the call is a tick
+abbrev pub IsTick : {At Out : Type 0} → TimedCall At Out → Type 0
+IsTick (Tick now at) = ⊤
+IsTick other = ⊥
+
 module _ {At Request Reply Out Object : Type 0} (system : System At Request Reply Out Object) where
   -- The call begins, as the calls of the system begin. One with a deadline has the timer of its
   -- process, and waits in the Rendez in which that process waits with it.

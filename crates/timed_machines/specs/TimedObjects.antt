@@ -3,7 +3,8 @@
 use Rattle.std.specs.Prelude.{◌≡◌, Bool, true, Option, List, length}
 use Rattle.call_machines.specs.Ends.{NoRunDeadlocks}
 use Rattle.call_machines.specs.GrainEnds.{WakeupsAreDue}
-use Rattle.call_machines.specs.Programs.{EachBegins, Program, ProgramState, rests_at}
+use Rattle.call_machines.specs.IdleRuns.{IdleStopAtRest, IdleStuckAtRest}
+use Rattle.call_machines.specs.Programs.{EachBegins, MayIdleIn, Program, ProgramState, rests_at}
 use Rattle.call_machines.specs.Replies.{SuchStopAtRest, SuchStuckAtRest}
 use Rattle.call_machines.specs.Runs.{System}
 use Rattle.call_machines.specs.StrictRuns.{NeverStrictlyStuck}
@@ -14,7 +15,7 @@ use Rattle.object_machines.specs.ObjectCalls.{ObjectCall, ObjectOut, ObjectReply
 use Rattle.object_machines.specs.ObjectCalls.{ObjectStates, Objects, object_calls}
 use Rattle.object_machines.specs.ObjectEnds.{AreInOneWorld, BeginsBy, WaitsIn, goes_on, is_unworn}
 use Rattle.timed_machines.specs.TimedCalls.{TimedCall, TimedObject, TimedOut}
-use Rattle.timed_machines.specs.TimedEnds.{BeginsTimed, NotesOfTicksCome, TimedGoOn}
+use Rattle.timed_machines.specs.TimedEnds.{BeginsTimed, IsTick, NotesOfTicksCome, TimedGoOn}
 use Rattle.timed_machines.specs.TimedEnds.{timed_programs}
 
 -- a call at the objects, with a deadline or without, or a tick; and what it answers
@@ -93,3 +94,18 @@ TimedObjectsRestHold Place =
     (TimedGoesOn objects program starts) (λ state. rests_at served state ≡ true)
     → SuchStopAtRest (timed_calls_at objects program starts) LeavesTimedUnworn
     (λ state. rests_at served state ≡ true)
+
+-- ---- where processes tick for ever
+
+-- The same of runs that have stopped but for processes that tick for ever: while no timer is due,
+-- nothing comes of that.
+abbrev pub TimedObjectsIdleHold : Type 0 → Type 0
+TimedObjectsIdleHold Place =
+    (objects : Objects) (program : Program Place TimedObjectCall TimedObjectOut)
+    (starts : List (Option Place)) (served : Place → Bool)
+    → AreTimedPrograms objects program starts
+    → IdleStuckAtRest (timed_calls_at objects program starts) (MayIdleIn IsTick)
+    LeavesTimedUnworn (λ state. rests_at served state ≡ true)
+    (TimedGoesOn objects program starts)
+    → IdleStopAtRest (timed_calls_at objects program starts) (MayIdleIn IsTick)
+    LeavesTimedUnworn (λ state. rests_at served state ≡ true)
