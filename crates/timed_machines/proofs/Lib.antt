@@ -7,3 +7,4 @@ pub mod PositionLemmas
 pub mod ProgramTimers
 pub mod TimedObjectLemmas
 pub mod TimerFacts
+pub mod WorkedTimers
