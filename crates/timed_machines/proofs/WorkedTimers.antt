@@ -46,6 +46,33 @@ use Rattle.timer_machines.specs.TimedMachines.TimedState.{Awaits, Begins, Over, 
 use Rattle.timed_machines.specs.TimedCalls.{TimedObject}
 use Rattle.timed_machines.specs.TimedCalls.TimedCall.{Plain, Tick, Until}
 use Rattle.timed_machines.specs.TimedObjects.{TimedObjectCall, TimedObjectOut, timed_calls_at}
+use Rattle.std.proofs.Common.{◌∙◌, ap, length, subst}
+use Rattle.std.specs.Prelude.{⊤, slice_index_or}
+use Rattle.sync_base.specs.declared.note.Note.TheVariants.{Alarm}
+use Rattle.semaphore.specs.declared.sema_object.SemaCall.TheVariants.{Acquire}
+use Rattle.semaphore.specs.declared.sema_object.SemaReply.TheVariants as reply
+use Rattle.timer_list.specs.declared.timer_object.TimerCall.TheVariants.{Expire}
+use Rattle.timer_list.specs.declared.timer_object.TimerReply.TheVariants as told
+use Rattle.waiting.specs.declared.wait.WaitEnd.{WaitEnd}
+use Rattle.call_machines.specs.Grain.{Coarse}
+use Rattle.call_machines.specs.IdleRuns.{Idles, IsObjectIdle}
+use Rattle.call_machines.specs.Machine.{Machine, Next, Outcome}
+use Rattle.call_machines.specs.Programs.{EachBegins, MayIdleIn, goes_in_call}
+use Rattle.sema_machines.specs.Holds.Hold.{Alone as OnlyOne}
+use Rattle.sema_machines.proofs.HoldLemmas.{replied_alone}
+use Rattle.object_machines.specs.ObjectCalls.{object_calls}
+use Rattle.object_machines.specs.ObjectCalls.ObjectReply.{BySema}
+use Rattle.object_machines.specs.ObjectCalls.ObjectRequest.{OfSema}
+use Rattle.object_machines.specs.ObjectEnds.{AreApart, AreInOneWorld, BeginsBy, IsSemaHere}
+use Rattle.object_machines.specs.ObjectEnds.{WaitsIn, goes_on, sema_row, space_row}
+use Rattle.timer_machines.specs.Requests.TimedReply.{FromDevice, FromTimers}
+use Rattle.timer_machines.specs.Requests.TimedRequest.{ToDevice, ToTimers}
+use Rattle.timer_machines.specs.TimedMachines.TimedState.{Drains}
+use Rattle.timed_machines.specs.NotesKept.{KeepsNotes}
+use Rattle.timed_machines.specs.TimedEnds.{BeginsTimed, IsOfWait, IsTick, IsToTell, IsTold, NoteComes}
+use Rattle.timed_machines.specs.TimedEnds.{timed_goes}
+use Rattle.timed_machines.specs.TimedEnds.NoteComes.{IsOwed, IsPending}
+use Rattle.timed_machines.specs.TimedObjects.{AreTimedPrograms, TimedGoesOn, is_timed_unworn}
 
 abbrev proc : ℕ → Pid
 proc pid = record { 0 = pid }
@@ -200,3 +227,310 @@ module _ (lock : Locked SemaState SemaCall SemaReply)
       ≡ Ended ∷ Ended ∷ Ended ∷ []
   unfolding passed
   it_has_both = refl
+
+  -- ---- where the note is
+
+  abbrev At : Type 0
+  At = Coarse (they_start (Some 0) (Some 1) (Some 3))
+
+  -- the position after a schedule
+  abbrev comes_to : List ℕ → At
+  comes_to movers = coarse_of both_come (moves_of both_come (run_of both_come movers))
+
+  abbrev Told : At → Stand → Timer → Type 0
+  Told at state t =
+      IsTold (object_calls objects) program (Some 0 ∷ Some 1 ∷ Some 3 ∷ []) at 0 state t
+
+  abbrev Comes : At → Type 0
+  Comes at = NoteComes (object_calls objects) program (Some 0 ∷ Some 1 ∷ Some 3 ∷ []) at 0
+
+  abbrev acquired : WaitEnd ObjectOut
+  acquired = Answered (Ok (FromSema (Taken got.Acquired)))
+
+  abbrev awaiting : Stand
+  awaiting = In 0 (Until (until 0) (Awaits no_notes acquired))
+
+  -- the tick that took its timer is about to post it,
+  a_tick_owes_it : Told (comes_to (0 ∷ 0 ∷ 0 ∷ 0 ∷ released)) awaiting timer.Unset
+  unfolding passed
+  a_tick_owes_it = IsOwed 1 (omega arith) refl
+
+  -- and then it is pending
+  it_is_pending : Told (comes_to (1 ∷ 0 ∷ 0 ∷ 0 ∷ 0 ∷ released)) awaiting timer.Unset
+  unfolding passed
+  it_is_pending = IsPending refl
+
+  -- a position with these states, in which no note is pending
+  abbrev quiet_at : List Stand → At
+  quiet_at states =
+      record {
+        object = both_come.opening;
+        states = states;
+        notes = no_notes ∷ no_notes ∷ no_notes ∷ [];
+        levels = 0 ∷ 0 ∷ 0 ∷ 0 ∷ 0 ∷ 0 ∷ [];
+      }
+
+  -- where nobody is to tell it, it does not come
+  nobody_tells : (states : List Stand)
+      → ((ticker : ℕ) → IsToTell (object_calls objects) program
+      (Some 0 ∷ Some 1 ∷ Some 3 ∷ []) 0 (slice_index_or states ticker Ended) → ⊥)
+      → Comes (quiet_at states) → ⊥
+  nobody_tells states none (IsPending has) = false≢true has
+  nobody_tells states none (IsOwed ticker low tells) = none ticker tells
+
+  abbrev lost : List Stand
+  lost = awaiting ∷ In 1 (Tick 200 (Asking 1)) ∷ Ended ∷ []
+
+  none_of_these : (ticker : ℕ) → IsToTell (object_calls objects) program
+      (Some 0 ∷ Some 1 ∷ Some 3 ∷ []) 0 (slice_index_or lost ticker Ended) → ⊥
+  none_of_these zero tells = tells
+  none_of_these (suc zero) tells = tells
+  none_of_these (suc (suc zero)) tells = tells
+  none_of_these (suc (suc (suc ticker))) tells = tells
+
+  -- so nobody may await it there, with its sleep or without one
+  it_is_lost : Told (quiet_at lost) awaiting timer.Unset → ⊥
+  it_is_lost told = nobody_tells lost none_of_these told
+
+  it_is_lost_awake : Told (quiet_at lost)
+      (In 0 (Until (until 0) (Drains no_notes acquired))) timer.Unset → ⊥
+  it_is_lost_awake told = nobody_tells lost none_of_these told
+
+  -- nor wait with a timer that a tick took, unless the note ended its sleep
+  abbrev waiting : Option Fault → Stand
+  waiting failed = In 0 (Until (until 0) (Waits (AtSema 0 (Takes 0 (WaitWaits 0))) failed))
+
+  it_was_not_told : Told (quiet_at lost) (waiting None) timer.Expired → ⊥
+  it_was_not_told (inl ended) = ended
+  it_was_not_told (inr comes) = nobody_tells lost none_of_these comes
+
+  another_note_ended_it : Told (quiet_at lost)
+      (waiting (Some (fault.Interrupted (only Alarm)))) timer.Expired → ⊥
+  another_note_ended_it (inl ended) = false≢true ended
+  another_note_ended_it (inr comes) = nobody_tells lost none_of_these comes
+
+  the_note_ended_it : Told (quiet_at lost)
+      (waiting (Some (fault.Interrupted (only Expired)))) timer.Expired
+  the_note_ended_it = inl refl
+
+  -- a tick that tells another process does not tell this one
+  a_tick_tells_another : IsToTell (object_calls objects) program
+      (Some 0 ∷ Some 1 ∷ Some 3 ∷ []) 0 (In 1 (Tick 200 (Telling 1 (proc 2)))) → ⊥
+  a_tick_tells_another tells = cc
+
+  -- only who waits has a timer
+  a_timer_is_left_set : IsOfWait (object_calls objects) program
+      (Some 0 ∷ Some 1 ∷ Some 3 ∷ []) awaiting (timer.Set (proc 0) 150) → ⊥
+  a_timer_is_left_set of_wait = cc
+
+  -- ---- who goes on
+
+  abbrev goes : TimedObject ObjectStates → Stand → Bool
+  goes s state = goes_in_call (timed_goes (object_calls objects) (goes_on objects)) s state
+
+  -- a process that waits goes on where its unit was granted, with a deadline and without
+  granted : (position_of both_come released).object.device
+      ≡ (position_of both_come (0 ∷ 0 ∷ released)).object.device
+  unfolding passed
+  granted = refl
+
+  it_goes_on : goes (position_of both_come released).object (waiting None) ≡ true
+  unfolding passed
+  it_goes_on = refl
+
+  without_one_too : goes (position_of both_come released).object
+      (In 3 (Plain (AtSema 0 (Takes 0 (WaitWaits 0))))) ≡ true
+  unfolding passed
+  without_one_too = refl
+
+  it_waits_on : goes (position_of both_come asleep).object (waiting None) ≡ false
+  it_waits_on = refl
+
+  -- the note of a tick lets one go on that awaits it
+  the_note_comes : goes both_come.opening awaiting ≡ true
+  the_note_comes = refl
+
+  -- ---- where a process ticks for ever
+
+  abbrev early_at : Coarse too_early
+  early_at = coarse_of too_early (moves_of too_early (run_of too_early (1 ∷ asleep)))
+
+  -- while no timer is due nothing comes of it
+  it_idles : Idles too_early (MayIdleIn IsTick) early_at.object (In 2 (Tick 100 (Asking 0)))
+  it_idles =
+      record {
+        may = tt;
+        request = ToTimers (Expire 100);
+        asks = refl;
+        stays = refl;
+        again = refl;
+      }
+
+  -- so nobody goes on there, and the process that waits has not ended: such a program deadlocks
+  nobody_goes_on : IsObjectIdle too_early (MayIdleIn IsTick)
+      (TimedGoesOn objects program (Some 0 ∷ Some 2 ∷ None ∷ [])) early_at
+  nobody_goes_on zero low =
+      inr (inl (record {
+        rendez = rendez 0;
+        number = 0;
+        does = refl;
+        none = refl;
+        stays = λ goes. false≢true goes;
+      }))
+  nobody_goes_on (suc zero) low = inr (inr it_idles)
+  nobody_goes_on (suc (suc zero)) low = inl tt
+  nobody_goes_on (suc (suc (suc pid))) low =
+      absurd (let three : suc (suc (suc pid)) < 3 = low in omega arith)
+
+  -- a tick that is due is no idle one
+  one_is_due : Idles timed_out (MayIdleIn IsTick) (position_of timed_out asleep).object
+      (In 1 (Tick 200 (Asking 0))) → ⊥
+  one_is_due idles =
+      let same : ToTimers (Expire 200) ≡ idles.request = (let is = idles.asks in cc) in
+      let stays : (timed_out.after (position_of timed_out asleep).object
+      (ToTimers (Expire 200))).timers ≡ (position_of timed_out asleep).object.timers =
+      ap (λ (s : TimedObject ObjectStates). s.timers)
+      (ap (timed_out.after (position_of timed_out asleep).object) same ∙ idles.stays) in
+      cc
+
+  abbrev HasEnded : Stand → Type 0
+  HasEnded Ended = ⊤
+  HasEnded (In place at) = ⊥
+
+  -- nor is one that comes to its end
+  it_ticks_once : Idles too_early (MayIdleIn IsTick) early_at.object
+      (In 1 (Tick 100 (Asking 0))) → ⊥
+  it_ticks_once idles =
+      let same : ToTimers (Expire 100) ≡ idles.request = (let is = idles.asks in cc) in
+      let again : ◌≡◌ {A = Stand} Ended (In 1 (Tick 100 (Asking 0))) =
+      ap (λ (r : TimedRequest ObjectRequest). too_early.machine.goes_on
+      (In 1 (Tick 100 (Asking 0))) (Outcome.Replied (too_early.answer early_at.object r))) same
+      ∙ idles.again in
+      subst HasEnded again tt
+
+  -- and no other call idles
+  a_call_is_no_tick : MayIdleIn {Place = ℕ} IsTick (In 3 (call_of 3)) → ⊥
+  a_call_is_no_tick may = may
+
+  -- ---- which calls begin
+
+  abbrev Begins_as : ℕ → TimedObjectCall → Type 0
+  Begins_as =
+      BeginsTimed (object_calls objects) (BeginsBy objects) (WaitsIn objects)
+
+  -- with the timer of its own process, in the Rendez in which that waits
+  it_begins : Begins_as 0 (call_of 0)
+  it_begins = ((omega arith, (refl, refl)), record { pid_is = refl; seat_is = refl }, refl)
+
+  by_the_timer_of_another : Begins_as 0
+      (Until (record (until 0) { seat = 1 }) (Begins (AtSema 0 (Takes 0 Begun)))) → ⊥
+  by_the_timer_of_another begins = let seat = begins.1.seat_is in cc
+
+  for_another : Begins_as 0
+      (Until (record (until 0) { pid = proc 1 }) (Begins (AtSema 0 (Takes 0 Begun)))) → ⊥
+  for_another begins = let pid = begins.1.pid_is in cc
+
+  in_the_rendez_of_another : Begins_as 0
+      (Until (record (until 0) { rendez = rendez 1 }) (Begins (AtSema 0 (Takes 0 Begun)))) → ⊥
+  in_the_rendez_of_another begins = let there = begins.2 in cc
+
+  as_another_process : Begins_as 1 (Plain (AtSema 0 (Takes 0 Begun))) → ⊥
+  as_another_process begins = let seat = begins.1.0 in cc
+
+  with_its_timer_set : Begins_as 0
+      (Until (until 0) (Waits (AtSema 0 (Takes 0 (WaitWaits 0))) None)) → ⊥
+  with_its_timer_set begins = begins
+
+  -- a tick begins with a request
+  it_has_told_already : Begins_as 1 (Tick 200 (Telling 1 (proc 0))) → ⊥
+  it_has_told_already begins = cc
+
+  -- a call that never waits has no deadline
+  a_drain_has_none : Begins_as 0 (Until (until 0) (Begins (Alone Draining))) → ⊥
+  a_drain_has_none begins = begins.2
+
+  -- what the laws ask of these processes holds
+  they_begin : (starts : List (Option ℕ)) → EachBegins program Begins_as starts → length starts ≡ 3
+      → AreTimedPrograms objects program starts
+  they_begin starts begin long =
+      record { world = in_one_world; procs_are = long; begin = begin }
+    where
+      here : (number : ℕ) → number < 1 → IsSemaHere objects number
+      here zero low =
+          record { fits = record { low = omega arith; row = omega arith }; procs_are = refl }
+      here (suc number) low = absurd (let one : suc number < 1 = low in omega arith)
+
+      apart : (number other : ℕ) → number < 1 → other < 1 → number ≢ other
+          → AreApart (sema_row objects number) (sema_row objects other)
+      apart zero zero low low_too differs = absurd (differs refl)
+      apart (suc number) other low low_too differs =
+          absurd (let one : suc number < 1 = low in omega arith)
+      apart number (suc other) low low_too differs =
+          absurd (let one : suc other < 1 = low_too in omega arith)
+
+      before : (number : ℕ) → number < 1 → AreApart (sema_row objects number) (space_row objects)
+      before zero low = inl (omega arith)
+      before (suc number) low = absurd (let one : suc number < 1 = low in omega arith)
+
+      in_one_world : AreInOneWorld objects
+      in_one_world =
+          record {
+            semas = here;
+            room = record { members = omega arith; row = omega arith };
+            semas_apart = apart;
+            space_apart = before;
+          }
+
+-- ---- what is worn out
+
+grants_are_worn : is_timed_unworn (ToDevice (OfSema 0 (OnlyOne (Acquire 0))))
+    (FromDevice (BySema (replied_alone reply.Worn))) ≡ false
+grants_are_worn = refl
+
+a_wait_wears_nothing : is_timed_unworn (ToDevice (OfSema 0 (OnlyOne (Acquire 0))))
+    (FromDevice (BySema (replied_alone (reply.Wait 3)))) ≡ true
+a_wait_wears_nothing = refl
+
+timers_wear_nothing : is_timed_unworn (ToTimers (Expire 200)) (FromTimers told.NoneDue) ≡ true
+timers_wear_nothing = refl
+
+-- ---- calls that lose the note of a tick
+
+-- where a call is that sleeps, takes its notes and sleeps again
+data TakesThem : Type 0 where
+  First : TakesThem
+  Taking : TakesThem
+  Again : TakesThem
+
+abbrev takes_does : TakesThem → Next ⊥ Unit
+takes_does First = Next.Sleep (rendez 0) 0
+takes_does Taking = Next.Drain
+takes_does Again = Next.Sleep (rendez 0) 0
+
+abbrev takes_goes_on : TakesThem → Outcome ⊥ → TakesThem
+takes_goes_on First came = Taking
+takes_goes_on Taking came = Again
+takes_goes_on Again came = Again
+
+abbrev takes_them : Machine TakesThem ⊥ ⊥ Unit
+takes_them = record { does = takes_does; goes_on = takes_goes_on }
+
+it_may_lose_one : KeepsNotes takes_them → ⊥
+it_may_lose_one keeps =
+    keeps.takes_none First Taking 1 (rendez 0, 0, refl)
+    (record { between = First; before = refl; came = Outcome.Went; is = refl }) refl
+
+-- and one that sleeps on after notes ended its sleep
+abbrev sleeps_on : Machine TakesThem ⊥ ⊥ Unit
+sleeps_on = record { does = λ at. Next.Sleep (rendez 0) 0; goes_on = λ at came. at }
+
+it_may_sleep_on : KeepsNotes sleeps_on → ⊥
+it_may_sleep_on keeps =
+    keeps.sleeps_no_more First First no_notes 0 (rendez 0, 0, refl) refl (rendez 0, 0, refl)
+
+-- it sleeps again one step later
+it_may_sleep_again : KeepsNotes takes_them → ⊥
+it_may_sleep_again keeps =
+    keeps.sleeps_no_more First Again no_notes 1 (rendez 0, 0, refl)
+    (record { between = Taking; before = refl; came = Outcome.Went; is = refl })
+    (rendez 0, 0, refl)
