@@ -1,6 +1,6 @@
 -- Runs of calls with deadlines and of ticks, computed: a wait that a tick ends, a tick that comes
 -- too early, a unit that comes while a tick is about to tell, and a process that ticks for ever.
-use Rattle.std.proofs.Common.{◌≡◌, ◌≢◌, ◌⊎◌, inl, inr, ◌<◌, ◌≤◌, ℕ, zero, suc, Bool, true, false}
+use Rattle.std.proofs.Common.{◌≡◌, ◌≢◌, inl, inr, ◌<◌, ℕ, zero, suc, Bool, true, false}
 use Rattle.std.proofs.Common.{Option, Some, None, List, [], ◌∷◌, Ok, Err, Result, refl, arith}
 use Rattle.std.proofs.lemmas.Bool.{false≢true}
 use Rattle.kernel_lock.specs.declared.locked.Locked.{Locked}
@@ -28,21 +28,21 @@ use Rattle.call_machines.specs.Programs.{Program, ProgramState}
 use Rattle.call_machines.specs.Programs.ProgramState.{Ended, In}
 use Rattle.call_machines.specs.Runs.{System}
 use Rattle.call_machines.specs.Schedules.{position_of, run_of}
-use Rattle.call_machines.specs.WaitTables.WaitState.{Begun, Over as WaitOver, Waits as WaitWaits}
+use Rattle.call_machines.specs.WaitTables.WaitState.{Begun, Waits as WaitWaits}
 use Rattle.sema_machines.specs.CallMachines.ReleaseState.{Releasing}
 use Rattle.sema_machines.specs.SemaRuns.CallOut.{Taken}
 use Rattle.sema_machines.specs.SemaRuns.CallState.{Gives, Takes}
 use Rattle.semaphore.specs.declared.acquiring.Semacquired.TheVariants as got
 use Rattle.object_machines.specs.ObjectCalls.{Objects}
-use Rattle.object_machines.specs.ObjectCalls.{ObjectCall, ObjectOut, ObjectReply, ObjectRequest}
+use Rattle.object_machines.specs.ObjectCalls.{ObjectOut, ObjectReply, ObjectRequest}
 use Rattle.object_machines.specs.ObjectCalls.{ObjectStates}
 use Rattle.object_machines.specs.ObjectCalls.ObjectCall.{Alone, AtSema}
 use Rattle.object_machines.specs.ObjectCalls.ObjectOut.{FromSema}
 use Rattle.object_machines.specs.OwnCalls.OwnState.{Draining}
 use Rattle.timer_machines.specs.Requests.{TimedReply, TimedRequest}
-use Rattle.timer_machines.specs.TickMachine.TickState.{Asking, Telling, Ticked}
+use Rattle.timer_machines.specs.TickMachine.TickState.{Asking, Telling}
 use Rattle.timer_machines.specs.TimedMachines.{Deadline}
-use Rattle.timer_machines.specs.TimedMachines.TimedState.{Awaits, Begins, Over, Waits}
+use Rattle.timer_machines.specs.TimedMachines.TimedState.{Awaits, Begins, Waits}
 use Rattle.timed_machines.specs.TimedCalls.{TimedObject}
 use Rattle.timed_machines.specs.TimedCalls.TimedCall.{Plain, Tick, Until}
 use Rattle.timed_machines.specs.TimedObjects.{TimedObjectCall, TimedObjectOut, timed_calls_at}
