@@ -61,12 +61,14 @@ module _ {At Request Reply Out Object : Type 0} (system : System At Request Repl
   abbrev does_at : At → Next Request Out
   does_at = system.machine.does
 
+  -- what holds of a position, with the calls within
   abbrev pub Fine : Coarse timed → Type 0
   Fine p = positions.Fine system Own Holds p
 
   abbrev Goes : Object → At → Type 0
   Goes object at = goes object at ≡ true
 
+  -- its object lets a call go on, or the note of a tick does
   abbrev pub TimedGoes : TimedObject Object → TimedCall At Out → Type 0
   TimedGoes s at = timed_goes system goes s at ≡ true
 
@@ -160,6 +162,7 @@ module _ {At Request Reply Out Object : Type 0} (system : System At Request Repl
   ended_within (Until until (Over out)) call over show = show
   ended_within (Tick now at) call over show = show
 
+  -- the timer of a process that has ended is not set
   pub ended_timer : (pid : ℕ) (s : TimedCall At Out) (t : Timer) → HasEnded (call_does system s)
       → positions.IsTimerOf system Own Holds pid s t → t ≡ timer.Unset
   ended_timer pid (Until until (Waits at failed)) t over is =
@@ -202,7 +205,8 @@ module _ {At Request Reply Out Object : Type 0} (system : System At Request Repl
         IsOwed ticker there (subst (positions.IsToTell system Own Holds other)
         (sym (others_now p.states pid long next (timed.none) ticker
         (λ same. tells_on other (at_of timed p pid)
-        (subst (λ (q : ℕ). positions.IsToTell system Own Holds other (at_of timed p q)) same tells) ended))) tells)
+        (subst (λ (q : ℕ). positions.IsToTell system Own Holds other (at_of timed p q)) same tells)
+        ended))) tells)
 
     told_on : (next : TimedCall At Out) (other : ℕ) (s : TimedCall At Out) (t : Timer)
         → positions.IsTold system Own Holds p other s t
@@ -416,8 +420,8 @@ module _ {At Request Reply Out Object : Type 0} (system : System At Request Repl
         waits on (ForNote until notes ending is rendez_is number_is) =
             inl (show_of pid low (Until until (Awaits notes ending)) is)
 
-        ticks : (s : TimedCall At Out) → IsTick s → positions.IsShown system Own Holds s (call_of pid)
-            → HasEnded (does_at (call_of pid))
+        ticks : (s : TimedCall At Out) → IsTick s
+            → positions.IsShown system Own Holds s (call_of pid) → HasEnded (does_at (call_of pid))
         ticks (Tick now at) tick show = show
         ticks s tick show = absurd tick
 
@@ -454,8 +458,9 @@ module _ {At Request Reply Out Object : Type 0} (system : System At Request Repl
         of (inr (inr idly)) = asks idly.1.0 (at_of timed p ticker) tells idly.1.1
 
     -- so nobody waits whom its object lets go on, and nobody awaits the note of a tick
-    none_waits : (pid : ℕ) → IsStuckBut timed IsTick p → pid < procs system → (on : WaitsOn timed p pid)
-        → TimedGoes p.object (at_of timed p pid) → Sleeps on.rendez on.number (at_of timed p pid)
+    none_waits : (pid : ℕ) → IsStuckBut timed IsTick p → pid < procs system
+        → (on : WaitsOn timed p pid) → TimedGoes p.object (at_of timed p pid)
+        → Sleeps on.rendez on.number (at_of timed p pid)
         → ⊥
     none_waits pid stuck low on goes_on (InPlain at is does) =
         invariant.due within pid fine.inner (stuck_within stuck) low
@@ -607,8 +612,8 @@ module _ {At Request Reply Out Object : Type 0} (system : System At Request Repl
         (sleeps_on until notes ending (mine_of pid low (Until until (Awaits notes ending)) is).1))
 
   -- so the system with timers shows it too
-  pub timed_invariant : WholeInvariant timed TimedGoes IsTick (BeginsTimed system BeginsBy WaitsIn) Own
-      Fine
+  pub timed_invariant : WholeInvariant timed TimedGoes IsTick
+      (BeginsTimed system BeginsBy WaitsIn) Own Fine
   timed_invariant =
       record {
         rest = rest_so;

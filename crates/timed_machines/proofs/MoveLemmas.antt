@@ -24,8 +24,9 @@ use Rattle.timer_list.specs.Timing.{notes_of as ending_notes}
 use Rattle.waiting.specs.declared.wait.WaitEnd.{WaitEnd}
 use Rattle.call_machines.specs.Devices.{Invariant}
 use Rattle.call_machines.specs.Ends.{HasEnded}
-use Rattle.call_machines.specs.Grain.{Coarse, Grain, IsRefusal, at_of, levels_by, moved, notes_after}
-use Rattle.call_machines.specs.Grain.{notes_by, notes_of, object_with, outcome_by, receiver}
+use Rattle.call_machines.specs.Grain.{Coarse, Grain, IsRefusal, at_of, levels_by, moved}
+use Rattle.call_machines.specs.Grain.{notes_after, notes_by, notes_of, object_with, outcome_by}
+use Rattle.call_machines.specs.Grain.{receiver}
 use Rattle.call_machines.specs.Grain.Grain.{Drained, Heard, Noted, Posted, Refused, Returned, Went}
 use Rattle.call_machines.specs.Grain.Grain.{Woken}
 use Rattle.call_machines.specs.Machine.{Next, Outcome, next_with}
@@ -37,16 +38,17 @@ use Rattle.timer_machines.specs.Requests.TimedReply.{FromTimers}
 use Rattle.timer_machines.specs.Requests.TimedRequest.{ToTimers}
 use Rattle.timer_machines.specs.TickMachine.{TickState, asks_on, expired, tells}
 use Rattle.timer_machines.specs.TickMachine.TickState.{Asking, Telling, Ticked}
-use Rattle.timer_machines.specs.TimedMachines.{Deadline, TimedState, begins_on, begins_with, cancelled}
-use Rattle.timer_machines.specs.TimedMachines.{ended_with, ending_at, ending_of}
-use Rattle.timer_machines.specs.TimedMachines.{goes_within, is_expired, looked, waits_on, waits_with}
+use Rattle.timer_machines.specs.TimedMachines.{Deadline, TimedState, begins_on, begins_with}
+use Rattle.timer_machines.specs.TimedMachines.{cancelled, ended_with, ending_at, ending_of}
+use Rattle.timer_machines.specs.TimedMachines.{goes_within, is_expired, looked, waits_on}
+use Rattle.timer_machines.specs.TimedMachines.{waits_with}
 use Rattle.timer_machines.specs.TimedMachines.{timed_does, with_notes}
 use Rattle.timer_list.specs.declared.limits.TheConstants.{LAST_THRESHOLD}
 use Rattle.timer_machines.specs.TimedMachines.TimedState.{Awaits, Begins, Drains, Over, PutsBack}
 use Rattle.timer_machines.specs.TimedMachines.TimedState.{Waits}
 use Rattle.timed_machines.specs.NotesKept.{IsAsleep, KeepsNotes}
-use Rattle.timed_machines.specs.TimedCalls.{TimedCall, TimedObject, TimedOut, call_does, call_goes_on}
-use Rattle.timed_machines.specs.TimedCalls.{timed_calls}
+use Rattle.timed_machines.specs.TimedCalls.{TimedCall, TimedObject, TimedOut, call_does}
+use Rattle.timed_machines.specs.TimedCalls.{call_goes_on, timed_calls}
 use Rattle.timed_machines.specs.TimedCalls.TimedCall.{Plain, Tick, Until}
 use Rattle.timed_machines.specs.TimedCalls.TimedOut.{FromCall}
 use Rattle.timed_machines.specs.TimedEnds.{EndedByTick}
@@ -554,7 +556,8 @@ module _ {At Request Reply Out Object : Type 0} (system : System At Request Repl
             (can.0, can.1, can.2)))
 
     waits_moves : (until : Deadline) (at : At) (failed : Option Fault)
-        → at_of timed p m ≡ Until until (Waits at failed) → MayDo (as_next system (does_at at)) grain
+        → at_of timed p m ≡ Until until (Waits at failed)
+        → MayDo (as_next system (does_at at)) grain
         → Settles (as_next system (does_at at))
         (Until until (waits_on system.machine until at failed (outcome_by grain))) grain
     waits_moves until at failed is may =
@@ -660,7 +663,8 @@ module _ {At Request Reply Out Object : Type 0} (system : System At Request Repl
       comes_still : (answer : Result Out Fault) (now : TimedCall At Out)
           → is_expired reply ≡ true
           → holds (ending_notes (ended_with failed answer)) Expired ≡ false
-          → positions.NoteComes system Own Holds (now_at (Next.Ask (ToTimers cancel)) now cancel_heard) m
+          → positions.NoteComes system Own Holds
+          (now_at (Next.Ask (ToTimers cancel)) now cancel_heard) m
       comes_still answer now expired_is none = by own_timer refl
         where
           has_none : (f : Option Fault) (a : Result Out Fault)
@@ -674,7 +678,8 @@ module _ {At Request Reply Out Object : Type 0} (system : System At Request Repl
           has_none None a has without = absurd has
 
           on : EndedByTick failed ⊎ positions.NoteComes system Own Holds p m
-              → positions.NoteComes system Own Holds (now_at (Next.Ask (ToTimers cancel)) now cancel_heard) m
+              → positions.NoteComes system Own Holds
+          (now_at (Next.Ask (ToTimers cancel)) now cancel_heard) m
           on (inl has) = absurd (has_none failed answer has none)
           on (inr comes) =
               positions.comes_on system Own Holds p fine m low cancel_heard
@@ -682,16 +687,17 @@ module _ {At Request Reply Out Object : Type 0} (system : System At Request Repl
               comes
 
           by : (t : Timer) → own_timer ≡ t
-              → positions.NoteComes system Own Holds (now_at (Next.Ask (ToTimers cancel)) now cancel_heard) m
+              → positions.NoteComes system Own Holds
+          (now_at (Next.Ask (ToTimers cancel)) now cancel_heard) m
           by timer.Expired t_is =
               on (subst (positions.IsTold system Own Holds p m (Until until (Waits at failed))) t_is
               (told_of (Until until (Waits at failed)) is))
           by (timer.Set to moment) t_is =
-              absurd (let no = sym expired_is ∙ ap is_expired (reply_is ∙ ap answer_cancelled t_is) in
-              cc)
+              absurd (let no = sym expired_is
+              ∙ ap is_expired (reply_is ∙ ap answer_cancelled t_is) in cc)
           by timer.Unset t_is =
-              absurd (let no = sym expired_is ∙ ap is_expired (reply_is ∙ ap answer_cancelled t_is) in
-              cc)
+              absurd (let no = sym expired_is
+              ∙ ap is_expired (reply_is ∙ ap answer_cancelled t_is) in cc)
 
       -- where it is over, with this answer
       cancels_at_end : (answer : Result Out Fault) (state : At)
@@ -918,7 +924,8 @@ module _ {At Request Reply Out Object : Type 0} (system : System At Request Repl
               (Until until (Awaits (joined notes set) ending)) (Drained set)
               (subst MayMove g_is may_move) refl call inner (show_of was is) (mine.0, none)
               (timer_so was is)
-              (subst (λ (g : positions.TimedGrain system Own Holds). positions.NoteComes system Own Holds
+              (subst (λ (g : positions.TimedGrain system Own Holds).
+              positions.NoteComes system Own Holds
               (now_at Next.Drain (Until until (Awaits (joined notes set) ending)) g) m) g_is
               (comes_later set notes Next.Drain
               (Until until (Awaits (joined notes set) ending)) all none (told_of was is))))

@@ -263,6 +263,7 @@ module _ (objects : Objects) where
       met_awake call.member call.offered call.at asleep.0 asleep.1 left asleep.2
   call_awake at left asleep = left
 
+  -- so the calls at several objects keep the note of a tick
   pub keeps_notes : KeepsNotes machine
   keeps_notes =
       record {

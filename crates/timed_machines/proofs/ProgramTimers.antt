@@ -69,7 +69,8 @@ module _ {At Request Reply Out Object Place : Type 0} (system : System At Reques
 
     show_of : (pid : ℕ) → pid < procs system → (s : ProgramState Place (TimedCall At Out))
         → at_of whole p pid ≡ s
-        → wholes.IsShown (timed_calls system) program starts s (at_of (timed_calls system) calls_at pid)
+        → wholes.IsShown (timed_calls system) program starts s
+        (at_of (timed_calls system) calls_at pid)
     show_of pid low s is =
         subst (λ (r : ProgramState Place (TimedCall At Out)).
         wholes.IsShown (timed_calls system) program starts r
@@ -166,11 +167,11 @@ module _ {At Request Reply Out Object Place : Type 0} (system : System At Reques
                   own_rendez pid (at_of (timed_calls system) calls_at pid) t over of_timer);
             }
 
-  -- wherever moves come
+  -- it holds of each process wherever moves come
   pub notes_come : NotesOfTicksCome system program starts
   notes_come moves pid all low =
-      let fine = wholes.fine_after (timed_calls system) program starts (timed_goes system goes) IsTick
-      (BeginsTimed system BeginsBy WaitsIn) Own (positions.Fine system Own Holds)
+      let fine = wholes.fine_after (timed_calls system) program starts (timed_goes system goes)
+      IsTick (BeginsTimed system BeginsBy WaitsIn) Own (positions.Fine system Own Holds)
       (timed_lemmas.timed_invariant system goes BeginsBy WaitsIn Own Holds invariant keeps
       own_rendez) many begin moves all in
       timed_so (coarse_of whole moves) fine pid

@@ -69,8 +69,8 @@ use Rattle.timer_machines.specs.Requests.TimedReply.{FromDevice, FromTimers}
 use Rattle.timer_machines.specs.Requests.TimedRequest.{ToDevice, ToTimers}
 use Rattle.timer_machines.specs.TimedMachines.TimedState.{Drains}
 use Rattle.timed_machines.specs.NotesKept.{KeepsNotes}
-use Rattle.timed_machines.specs.TimedEnds.{BeginsTimed, IsOfWait, IsTick, IsToTell, IsTold, NoteComes}
-use Rattle.timed_machines.specs.TimedEnds.{timed_goes}
+use Rattle.timed_machines.specs.TimedEnds.{BeginsTimed, IsOfWait, IsTick, IsToTell, IsTold}
+use Rattle.timed_machines.specs.TimedEnds.{NoteComes, timed_goes}
 use Rattle.timed_machines.specs.TimedEnds.NoteComes.{IsOwed, IsPending}
 use Rattle.timed_machines.specs.TimedObjects.{AreTimedPrograms, TimedGoesOn, is_timed_unworn}
 

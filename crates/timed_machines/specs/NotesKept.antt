@@ -1,5 +1,5 @@
--- What a call owes that is to have a deadline: the note of a tick ends its wait, or it is there when
--- the call is over.
+-- What a call owes that is to have a deadline: the note of a tick ends its wait, or it is there
+-- when the call is over.
 use Rattle.std.specs.Prelude.{◌≡◌, ℕ, zero, suc, Err}
 use Rattle.sync_base.specs.declared.fault.Fault.TheVariants as fault
 use Rattle.sync_base.specs.declared.ids.RendezId.{RendezId}

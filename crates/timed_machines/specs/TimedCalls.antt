@@ -1,6 +1,6 @@
--- Calls with deadlines and ticks, over the calls of any system: each is a call of that system, with
--- a deadline or without one, or a tick. After tsemacquire in semacquire(2) and tsleep of the kernel.
--- Own: a tick is a call.
+-- Calls with deadlines and ticks, over the calls of any system: each is a call of that system,
+-- with a deadline or without one, or a tick. After tsemacquire in semacquire(2) and tsleep of the
+-- kernel. Own: a tick is a call.
 use Rattle.std.specs.Prelude.{ℕ, List, map, replicate}
 use Rattle.timer_list.specs.declared.timer_object.Timer.{Timer}
 use Rattle.timer_list.specs.declared.timer_object.Timer.TheVariants.{Unset}
