@@ -38,7 +38,7 @@ use Rattle.timed_machines.specs.TimedEnds.{EndedByTick, IsItsDeadline}
 use Rattle.timed_machines.proofs.NoteFacts.{holds_more, holds_other}
 
 module _ {At Request Reply Out Object : Type 0} (system : System At Request Reply Out Object)
-    (Own : ℕ → RendezId → Type 0) (Holds : Coarse system → Type 0) where
+    (Own : ℕ → RendezId → Type 0) (Starts : At → Type 0) (Holds : Coarse system → Type 0) where
   -- the calls with deadlines and the ticks
   abbrev pub timed : System (TimedCall At Out) (TimedRequest Request) (TimedReply Reply)
       (TimedOut Out) (TimedObject Object)
@@ -85,10 +85,23 @@ module _ {At Request Reply Out Object : Type 0} (system : System At Request Repl
     -- and which is in the world
     pub there : until.rendez.0 < system.rendez
 
+  -- the call within is one that may have a deadline
+  pub record HasBegun (at : At) : Type 0 where
+    -- the state in which it began
+    pub start : At
+    -- the number of steps since then
+    pub before : ℕ
+    -- it is such a call
+    pub starts : Starts start
+    -- and has come from there to this state
+    pub began : ComesFrom system.machine start before at
+
   -- the call within has slept
   pub record HasSlept (at : At) : Type 0 where
     -- a state in which it slept
     pub from : At
+    -- to which it came from its start
+    pub begun : HasBegun from
     -- the number of steps since then
     pub times : ℕ
     -- it sleeps in that state
@@ -100,6 +113,8 @@ module _ {At Request Reply Out Object : Type 0} (system : System At Request Repl
   pub record WasEnded (set : NoteSet) (at : At) : Type 0 where
     -- a state in which it slept
     pub from : At
+    -- to which it came from its start
+    pub begun : HasBegun from
     -- the number of steps since then
     pub times : ℕ
     -- it sleeps in that state
@@ -114,7 +129,8 @@ module _ {At Request Reply Out Object : Type 0} (system : System At Request Repl
 
   -- how a call with a deadline has come there
   abbrev pub HasCome : TimedState At Out → Type 0
-  HasCome (Waits at failed) = HasSlept at × HasFailed failed at
+  HasCome (Begins at) = HasBegun at
+  HasCome (Waits at failed) = HasBegun at × HasSlept at × HasFailed failed at
   HasCome (Awaits notes ending) = holds notes Expired ≡ false
   HasCome other = ⊤
 

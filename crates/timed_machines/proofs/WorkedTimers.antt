@@ -502,6 +502,11 @@ data TakesThem : Type 0 where
   Taking : TakesThem
   Again : TakesThem
 
+-- it begins at its first state
+abbrev IsFirst : TakesThem → Type 0
+IsFirst First = ⊤
+IsFirst other = ⊥
+
 abbrev takes_does : TakesThem → Next ⊥ Unit
 takes_does First = Next.Sleep (rendez 0) 0
 takes_does Taking = Next.Drain
@@ -515,22 +520,31 @@ takes_goes_on Again came = Again
 abbrev takes_them : Machine TakesThem ⊥ ⊥ Unit
 takes_them = record { does = takes_does; goes_on = takes_goes_on }
 
-it_may_lose_one : KeepsNotes takes_them → ⊥
+it_may_lose_one : KeepsNotes takes_them IsFirst → ⊥
 it_may_lose_one keeps =
-    keeps.takes_none First Taking 1 (rendez 0, 0, refl)
+    keeps.takes_none First First Taking 0 1 tt refl (rendez 0, 0, refl)
     (record { between = First; before = refl; came = Outcome.Went; is = refl }) refl
 
 -- and one that sleeps on after notes ended its sleep
 abbrev sleeps_on : Machine TakesThem ⊥ ⊥ Unit
 sleeps_on = record { does = λ at. Next.Sleep (rendez 0) 0; goes_on = λ at came. at }
 
-it_may_sleep_on : KeepsNotes sleeps_on → ⊥
+it_may_sleep_on : KeepsNotes sleeps_on IsFirst → ⊥
 it_may_sleep_on keeps =
-    keeps.sleeps_no_more First First no_notes 0 (rendez 0, 0, refl) refl (rendez 0, 0, refl)
+    keeps.sleeps_no_more First First First no_notes 0 0 tt refl (rendez 0, 0, refl) refl
+    (rendez 0, 0, refl)
 
 -- it sleeps again one step later
-it_may_sleep_again : KeepsNotes takes_them → ⊥
+it_may_sleep_again : KeepsNotes takes_them IsFirst → ⊥
 it_may_sleep_again keeps =
-    keeps.sleeps_no_more First Again no_notes 1 (rendez 0, 0, refl)
+    keeps.sleeps_no_more First First Again no_notes 0 1 tt refl (rendez 0, 0, refl)
     (record { between = Taking; before = refl; came = Outcome.Went; is = refl })
     (rendez 0, 0, refl)
+
+-- but calls that begin elsewhere owe nothing
+none_begins : KeepsNotes takes_them (λ at. ⊥)
+none_begins =
+    record {
+      takes_none = λ start from at before times starts began asleep comes does. starts;
+      sleeps_no_more = λ start from at set before times starts began asleep comes again. starts;
+    }
