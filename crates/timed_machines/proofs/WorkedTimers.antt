@@ -46,7 +46,7 @@ use Rattle.timer_machines.specs.TimedMachines.TimedState.{Awaits, Begins, Waits}
 use Rattle.timed_machines.specs.TimedCalls.{TimedObject}
 use Rattle.timed_machines.specs.TimedCalls.TimedCall.{Plain, Tick, Until}
 use Rattle.timed_machines.specs.TimedObjects.{TimedObjectCall, TimedObjectOut, timed_calls_at}
-use Rattle.std.proofs.Common.{◌∙◌, ap, length, subst}
+use Rattle.std.proofs.Common.{◌∙◌, ap, length, subst, sym}
 use Rattle.std.specs.Prelude.{⊤, slice_index_or}
 use Rattle.sync_base.specs.declared.note.Note.TheVariants.{Alarm}
 use Rattle.semaphore.specs.declared.sema_object.SemaCall.TheVariants.{Acquire}
@@ -57,7 +57,7 @@ use Rattle.waiting.specs.declared.wait.WaitEnd.{WaitEnd}
 use Rattle.call_machines.specs.Grain.{Coarse}
 use Rattle.call_machines.specs.IdleRuns.{Idles, IsObjectIdle}
 use Rattle.call_machines.specs.Machine.{Machine, Next, Outcome}
-use Rattle.call_machines.specs.Programs.{EachBegins, MayIdleIn, goes_in_call}
+use Rattle.call_machines.specs.Programs.{ComesTo, EachBegins, MayIdleIn, goes_in_call}
 use Rattle.sema_machines.specs.Holds.Hold.{Alone as OnlyOne}
 use Rattle.sema_machines.proofs.HoldLemmas.{replied_alone}
 use Rattle.object_machines.specs.ObjectCalls.{object_calls}
@@ -480,6 +480,62 @@ module _ (lock : Locked SemaState SemaCall SemaReply)
             semas_apart = apart;
             space_apart = before;
           }
+
+  -- the first process is at its acquire, or takes its notes where that timed out
+  from_zero : (calls place : ℕ) → ComesTo program (Some 0) calls place
+      → (place ≡ 0) ⊎ (place ≡ 4)
+  from_zero zero place is = inl cc
+  from_zero (suc calls) place comes =
+      by (from_zero calls comes.before comes.comes) comes.answer comes.follows
+    where
+      late : (before : ℕ) → before ≡ 0 → (answer : Result TimedObjectOut Fault)
+          → next_of before answer ≡ Some place → place ≡ 4
+      late zero is (Err fault.TimedOut) follows = cc
+      late zero is other follows = absurd cc
+      late (suc before) is answer follows = absurd cc
+
+      ends : (before : ℕ) → before ≡ 4 → (answer : Result TimedObjectOut Fault)
+          → next_of before answer ≡ Some place → ⊥
+      ends zero is answer follows = cc
+      ends (suc zero) is answer follows = cc
+      ends (suc (suc zero)) is answer follows = cc
+      ends (suc (suc (suc before))) is answer follows = cc
+
+      by : (comes.before ≡ 0) ⊎ (comes.before ≡ 4) → (answer : Result TimedObjectOut Fault)
+          → next_of comes.before answer ≡ Some place → (place ≡ 0) ⊎ (place ≡ 4)
+      by (inl first) answer follows = inr (late comes.before first answer follows)
+      by (inr last) answer follows = absurd (ends comes.before last answer follows)
+
+  -- the second ticks once
+  from_one : (calls place : ℕ) → ComesTo program (Some 1) calls place → place ≡ 1
+  from_one zero place is = cc
+  from_one (suc calls) place comes =
+      absurd (by comes.before (from_one calls comes.before comes.comes) comes.answer comes.follows)
+    where
+      by : (before : ℕ) → before ≡ 1 → (answer : Result TimedObjectOut Fault)
+          → next_of before answer ≡ Some place → ⊥
+      by zero is answer follows = cc
+      by (suc zero) is answer follows = cc
+      by (suc (suc before)) is answer follows = cc
+
+  -- and the third makes no call
+  from_none : (calls place : ℕ) → ComesTo program None calls place → ⊥
+  from_none zero place is = cc
+  from_none (suc calls) place comes = from_none calls comes.before comes.comes
+
+  each_begins : EachBegins program Begins_as (Some 0 ∷ Some 1 ∷ None ∷ [])
+  each_begins zero calls place comes = by (from_zero calls place comes)
+    where
+      by : (place ≡ 0) ⊎ (place ≡ 4) → Begins_as 0 (call_of place)
+      by (inl is) = subst (λ (n : ℕ). Begins_as 0 (call_of n)) (sym is) it_begins
+      by (inr is) = subst (λ (n : ℕ). Begins_as 0 (call_of n)) (sym is) tt
+  each_begins (suc zero) calls place comes =
+      subst (λ (n : ℕ). Begins_as 1 (call_of n)) (sym (from_one calls place comes)) refl
+  each_begins (suc (suc zero)) calls place comes = absurd (from_none calls place comes)
+  each_begins (suc (suc (suc pid))) calls place comes = absurd (from_none calls place comes)
+
+  the_laws_are_of_them : AreTimedPrograms objects program (Some 0 ∷ Some 1 ∷ None ∷ [])
+  the_laws_are_of_them = they_begin (Some 0 ∷ Some 1 ∷ None ∷ []) each_begins refl
 
 -- ---- what is worn out
 
