@@ -252,10 +252,16 @@ module _ (s : State) (pid : ℕ) where
       (answered phase.Idle (Drain (proc pid)) (at ∙ fits) refl (ap (answer_to s) idle ∙ told)))
   parked_so other stage event at fits is told = absurd cc
 
--- ---- a run that has stopped
+-- ---- a run that has stopped, but for processes that are about to ask
 
 module _ {At Request Reply Out Object : Type 0} (system : System At Request Reply Out Object)
-    (run : List (Step Request Reply)) (of : IsOfCalls system run) (stopped : HasStopped system run)
+    (run : List (Step Request Reply)) (of : IsOfCalls system run) (Asks : ℕ → Type 0)
+    (asks : (pid : ℕ) → Asks pid → (request : Request)
+    × (system.machine.does (own_in system pid run).at ≡ Next.Ask request))
+    (stopped : (pid : ℕ) → pid < procs system
+    → HasEnded (system.machine.does (own_in system pid run).at)
+    ⊎ (IsParked (world_at system run) (event_for pid (own_in system pid run).stage
+    (system.machine.does (own_in system pid run).at)) ⊎ Asks pid))
   where
     abbrev s : State
     s = world_at system run
@@ -299,6 +305,12 @@ module _ {At Request Reply Out Object : Type 0} (system : System At Request Repl
             subst (IsHolding pid) (stage_is system run of q ∙ fits) holds
         ended n fits over = absurd over
 
+        asking : (n : Next Request Out) → InPhase n (own_in system q run).stage
+            → (request : Request) → n ≡ Next.Ask request → ⊥
+        asking (Next.Ask own) fits request is =
+            subst (IsHolding pid) (stage_is system run of q ∙ fits) holds
+        asking n fits request is = absurd cc
+
         parked : (n : Next Request Out) → ParkedSo s q n → ⊥
         parked n so = how so.how
           where
@@ -311,12 +323,16 @@ module _ {At Request Reply Out Object : Type 0} (system : System At Request Repl
         by (inl low) = which (stopped q (subst (λ (m : ℕ). q < m) sound.procs_stay low))
           where
             which : HasEnded (system.machine.does (own_in system q run).at)
-                ⊎ IsParked s (event_for q (own_in system q run).stage
-                (system.machine.does (own_in system q run).at))
+                ⊎ (IsParked s (event_for q (own_in system q run).stage
+                (system.machine.does (own_in system q run).at)) ⊎ Asks q)
                 → ⊥
             which (inl over) =
                 ended (system.machine.does (own_in system q run).at) (fine.phases q) over
-            which (inr is) = parked (system.machine.does (own_in system q run).at) (parked_at q is)
+            which (inr (inl is)) =
+                parked (system.machine.does (own_in system q run).at) (parked_at q is)
+            which (inr (inr own)) =
+                asking (system.machine.does (own_in system q run).at) (fine.phases q)
+                (asks q own).0 (asks q own).1
 
     -- who is asleep is below no wakeup that has returned
     is_low : (pid : ℕ) (own : RendezId) (number : ℕ) → AsleepSo s pid own number
@@ -348,9 +364,12 @@ module _ {At Request Reply Out Object : Type 0} (system : System At Request Repl
         by IsMarked marked = let not = awaiting.unmarked in cc
         by IsOut out = let at = awaiting.at in cc
 
-    -- each process has ended at the grain of calls, or waits on there
-    pub is_stuck : IsCoarseStuck system (coarse_of system (moves_of system run))
-    is_stuck pid low = by (stopped pid low)
+    -- each process has ended at the grain of calls, waits on there or is about to ask
+    pub is_stuck_so : (pid : ℕ) → pid < procs system
+        → HasEnded (system.machine.does
+        (at_of system (coarse_of system (moves_of system run)) pid))
+        ⊎ (WaitsOn system (coarse_of system (moves_of system run)) pid ⊎ Asks pid)
+    is_stuck_so pid low = by (stopped pid low)
       where
         waits : (so : ParkedSo s pid
             (system.machine.does (own_in system pid run).at))
@@ -380,15 +399,45 @@ module _ {At Request Reply Out Object : Type 0} (system : System At Request Repl
         how so (inr awaiting) = absurd (no_waiter pid awaiting)
 
         by : HasEnded (system.machine.does (own_in system pid run).at)
-            ⊎ IsParked s (event_for pid (own_in system pid run).stage
-            (system.machine.does (own_in system pid run).at))
+            ⊎ (IsParked s (event_for pid (own_in system pid run).stage
+            (system.machine.does (own_in system pid run).at)) ⊎ Asks pid)
             → HasEnded (system.machine.does
             (at_of system (coarse_of system (moves_of system run)) pid))
-            ⊎ WaitsOn system (coarse_of system (moves_of system run)) pid
+            ⊎ (WaitsOn system (coarse_of system (moves_of system run)) pid ⊎ Asks pid)
         by (inl over) =
             inl (subst (λ (x : At). HasEnded (system.machine.does x)) (sym (fine.coarse.states pid))
             over)
-        by (inr parked) = let so = parked_at pid parked in inr (how so so.how)
+        by (inr (inl parked)) =
+            let so = parked_at pid parked in inr (inl (how so so.how))
+        by (inr (inr own)) = inr (inr own)
+
+-- where nobody goes on at all each process has ended at the grain of calls, or waits on there
+pub is_stuck : {At Request Reply Out Object : Type 0}
+    (system : System At Request Reply Out Object) (run : List (Step Request Reply))
+    → IsOfCalls system run → HasStopped system run
+    → IsCoarseStuck system (coarse_of system (moves_of system run))
+is_stuck system run of stopped pid low =
+    last (is_stuck_so system run of (λ q. ⊥) (λ q none. absurd none)
+    (λ q there. first q (stopped q there)) pid low)
+  where
+    first : (q : ℕ) → HasEnded (system.machine.does (own_in system q run).at)
+        ⊎ IsParked (world_at system run) (event_for q (own_in system q run).stage
+        (system.machine.does (own_in system q run).at))
+        → HasEnded (system.machine.does (own_in system q run).at)
+        ⊎ (IsParked (world_at system run) (event_for q (own_in system q run).stage
+        (system.machine.does (own_in system q run).at)) ⊎ ⊥)
+    first q (inl over) = inl over
+    first q (inr parked) = inr (inl parked)
+
+    last : HasEnded (system.machine.does
+        (at_of system (coarse_of system (moves_of system run)) pid))
+        ⊎ (WaitsOn system (coarse_of system (moves_of system run)) pid ⊎ ⊥)
+        → HasEnded (system.machine.does
+        (at_of system (coarse_of system (moves_of system run)) pid))
+        ⊎ WaitsOn system (coarse_of system (moves_of system run)) pid
+    last (inl over) = inl over
+    last (inr (inl on)) = inr on
+    last (inr (inr none)) = absurd none
 
 -- ---- the law
 

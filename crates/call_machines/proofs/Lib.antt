@@ -13,5 +13,6 @@ pub mod StrictLemmas
 pub mod UnrefusedLemmas
 pub mod WaitTableLemmas
 pub mod WholeCallLemmas
+pub mod WholeLemmas
 pub mod WorkedLatch
 mod WorkedRows

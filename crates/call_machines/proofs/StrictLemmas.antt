@@ -1,7 +1,7 @@
 -- Each run at the grain of calls has one that comes to the same and in which no wait ends well too
 -- early: who is woken too early asks in vain, and waits on.
 use Rattle.std.proofs.Common.{◌≡◌, ◌≢◌, ◌⊎◌, inl, inr, ◌<◌, ℕ, Bool, true, false, eqb, List}
-use Rattle.std.proofs.Common.{[], ◌∷◌, length, Ok, Err, refl, sym, ◌∙◌, ap, subst}
+use Rattle.std.proofs.Common.{[], ◌∷◌, length, Ok, Err, refl, sym, ◌∙◌, ap, subst, zero, suc}
 use Rattle.std.proofs.lemmas.Bool.Decides.{eqb_tells}
 use Rattle.std.proofs.lemmas.List.{get_or-set_same, get_or-set_other, length-replicate, length-set}
 use Rattle.sync_base.specs.declared.fault.Fault.TheVariants as fault
@@ -10,9 +10,11 @@ use Rattle.sync_base.specs.declared.note.NoteSet.{NoteSet}
 use Rattle.sync_base.specs.NoteSet.{no_notes}
 use Rattle.sleep_core.specs.Table.{has_notes}
 use Rattle.call_machines.specs.Ends.{HasEnded, IsOver}
-use Rattle.call_machines.specs.StrictRuns.{AsksAgainAtRest, StrictRestsHold, WaitsAskAtRest}
+use Rattle.call_machines.specs.StrictRuns.{AsksAgainAtRest, SleepsOn, StrictRestsHold}
 use Rattle.call_machines.specs.Grain.{AreMoves, Coarse, Grain, May, Move, at_of, coarse_of}
 use Rattle.call_machines.specs.Grain.{moved, notes_by, notes_of, object_with, outcome_by}
+use Rattle.call_machines.specs.IdleRuns.{IdleRestsHold, IdleStuckAtRest, Idles, IsIdleStuck}
+use Rattle.call_machines.specs.IdleRuns.{IsObjectIdle}
 use Rattle.call_machines.specs.Grain.Grain.{Drained, Heard, Noted, Posted, Refused, Returned, Went}
 use Rattle.call_machines.specs.Grain.Grain.{Woken}
 use Rattle.call_machines.specs.GrainEnds.{AreUnrefused, RestIn}
@@ -23,15 +25,15 @@ use Rattle.call_machines.specs.Grain.{event_grain, grain_of, moves_of, receiver,
 use Rattle.call_machines.specs.Grain.{with_grain, with_move}
 use Rattle.call_machines.specs.Replies.{AreAskedSo, AreHeardSo, IsAskedSo, IsHeardSo}
 use Rattle.call_machines.specs.Replies.{SuchRestsHold, SuchStuckAtRest}
-use Rattle.call_machines.specs.Runs.{Act, OwnState, Step, System, own_in, procs}
+use Rattle.call_machines.specs.Runs.{Act, OwnState, Step, System, object_at, own_in, procs}
 use Rattle.call_machines.specs.Runs.Act.{Asked, Made}
 use Rattle.call_machines.specs.StrictRuns.{AreLooseMoves, AreOneWait, AreStrict}
 use Rattle.call_machines.specs.StrictRuns.{AsksAgain, AsksInVain, MayLoosely}
 use Rattle.call_machines.specs.StrictRuns.{EndsInTime, StrictEndsHold}
-use Rattle.call_machines.specs.StrictRuns.{WaitsAskAgain, woken}
+use Rattle.call_machines.specs.StrictRuns.{WaitsAskAgain, WaitsAskAtRest, woken}
 use Rattle.call_machines.proofs.CoarseLemmas.{loosely}
-use Rattle.call_machines.proofs.GrainEndLemmas.{is_stuck}
-use Rattle.call_machines.proofs.GrainLemmas.{fine_run}
+use Rattle.call_machines.proofs.GrainEndLemmas.{is_stuck, is_stuck_so}
+use Rattle.call_machines.proofs.GrainLemmas.{Fine, fine_run}
 use Rattle.call_machines.proofs.UnrefusedLemmas.{no_sleep_is_refused}
 use Rattle.sleep_core.specs.declared.answer.Answer.{Answer}
 use Rattle.sleep_core.specs.declared.answer.Answer.TheVariants as answer
@@ -49,11 +51,13 @@ module _ {At Request Reply Out Object : Type 0} (system : System At Request Repl
     (again : WaitsAskAtRest system Goes Rests) where
   -- ---- the two runs
 
-  -- the strict run still sleeps, where the other was woken without notes
+  -- the strict run still sleeps, where the other was woken without notes, and is to ask
   record IsEarly (at strict : At) : Type 0 where
     rendez : RendezId
     number : ℕ
     sleeps : system.machine.does strict ≡ Next.Sleep rendez number
+    request : Request
+    asks : system.machine.does (woken system strict) ≡ Next.Ask request
     is : at ≡ woken system strict
 
   -- a process is in the same state in both runs, or in two waits of one call, or was woken early
@@ -271,16 +275,35 @@ module _ {At Request Reply Out Object : Type 0} (system : System At Request Repl
           unrefused strict heard
           (IsSame (ap (λ (a : At). system.machine.goes_on a (outcome_by grain)) same))
 
+      -- where a sleep ended well the strict run sleeps on
+      woken_step : (rendez : RendezId) (number : ℕ)
+          → system.machine.does (at_of system now pid) ≡ Next.Sleep rendez number
+          → woken system old ≡ woken system (at_of system now pid) → Strictly (after at Woken)
+      woken_step rendez number sleeps is = by (again so.moves so.all pid rendez number low sleeps)
+        where
+          by : AsksAgainAtRest system Goes Rests now.object (at_of system now pid)
+              ⊎ SleepsOn system Goes Rests (at_of system now pid) → Strictly (after at Woken)
+          by (inl one) =
+              skip Woken refl (notes_stay at sized) (WasEarly (record {
+                rendez = rendez;
+                number = number;
+                sleeps = sleeps;
+                request = one.request;
+                asks = one.asks;
+                is = is;
+              }))
+          by (inr on) =
+              skip Woken refl (notes_stay at sized)
+              (IsOneWait (subst (λ (s : At). AreOneWait system Goes s (at_of system now pid))
+              (sym is) on.waits)
+              (subst (λ (s : At). Rests (at_of system now pid) → Rests s) (sym is) on.rests))
+
       same_step : (grain : Grain Request Reply) → old ≡ at_of system now pid
           → May system at.object (notes_of system at pid) (system.machine.does old) grain
           → IsUnrefused system grain → IsHeardSo Comes grain → Strictly (after at grain)
       same_step Woken same may unrefused heard =
-          skip Woken refl (notes_stay at sized) (WasEarly (record {
-            rendez = may.0;
-            number = may.1;
-            sleeps = ap system.machine.does (sym same) ∙ may.2;
-            is = ap (woken system) same;
-          }))
+          woken_step may.0 may.1 (ap system.machine.does (sym same) ∙ may.2)
+          (ap (woken system) same)
       same_step (Heard request reply) same may unrefused heard =
           same_both _ same may unrefused tt heard
       same_step (Noted set) same may unrefused heard =
@@ -301,12 +324,7 @@ module _ {At Request Reply Out Object : Type 0} (system : System At Request Repl
           → May system at.object (notes_of system at pid) (system.machine.does old) grain
           → IsUnrefused system grain → Strictly (after at grain)
       asleep_step Woken one may unrefused =
-          skip Woken refl (notes_stay at sized) (WasEarly (record {
-            rendez = one.rendez;
-            number = one.other_number;
-            sleeps = one.other_sleeps;
-            is = one.alike (Ok tt);
-          }))
+          woken_step one.rendez one.other_number one.other_sleeps (one.alike (Ok tt))
       asleep_step (Noted set) one may unrefused =
           both (Noted set)
           (may_now (system.machine.does (at_of system now pid)) (Noted set)
@@ -427,7 +445,12 @@ module _ {At Request Reply Out Object : Type 0} (system : System At Request Repl
         by (IsSame same) = same_step so grain same may unrefused heard
         by (IsOneWait one alike) = asleep_step so grain one may unrefused
         by (WasEarly early) =
-            of early (again so.moves so.all pid early.rendez early.number low early.sleeps)
+            either (again so.moves so.all pid early.rendez early.number low early.sleeps)
+          where
+            either : AsksAgainAtRest system Goes Rests (coarse_of system so.moves).object strict_at
+                ⊎ SleepsOn system Goes Rests strict_at → Strictly (after at grain)
+            either (inl asks) = of early asks
+            either (inr on) = absurd (let is = sym early.asks ∙ on.waits.sleeps in cc)
 
   -- ---- all moves
 
@@ -468,9 +491,7 @@ module _ {At Request Reply Out Object : Type 0} (system : System At Request Repl
     -- one that was woken early is not over, and does not sleep
     asks_on : (early : IsEarly (at_of system at pid) (at_of system last pid))
         → (request : Request) × (system.machine.does (at_of system at pid) ≡ Next.Ask request)
-    asks_on early =
-        let asks = again so.moves so.all pid early.rendez early.number low early.sleeps in
-        (asks.request, ap system.machine.does early.is ∙ asks.asks)
+    asks_on early = (early.request, ap system.machine.does early.is ∙ early.asks)
 
     not_over : (does : Next Request Out) (rendez : RendezId) (number : ℕ)
         → does ≡ Next.Sleep rendez number → HasEnded does → ⊥
@@ -537,6 +558,181 @@ module _ {At Request Reply Out Object : Type 0} (system : System At Request Repl
       let ended = never so.moves so.all so.unrefused so.strict so.heard
       (λ pid low. stuck_so at so pid low (stuck pid low)) in
       λ pid low. rest_back at so pid low (stuck pid low) (ended pid low)
+
+  -- ---- where some processes idle
+
+  module _ (MayIdle : At → Type 0) (at : Coarse system) (sized : Sized at) where
+    -- those of so many that idle are there in the strict run too
+    record Caught (n : ℕ) : Type 0 where
+      so : Strictly at
+      same : (pid : ℕ) → pid < n → pid < procs system
+          → Idles system MayIdle at.object (at_of system at pid)
+          → at_of system at pid ≡ at_of system (coarse_of system so.moves) pid
+
+    -- one more: if it was woken early it would not ask in vain, so the strict run wakes it too
+    caught_more : (n : ℕ) → n < procs system → Caught n → Caught (suc n)
+    unfolding catch_up
+    caught_more n low was = by (was.so.states n)
+      where
+        strict_at : At
+        strict_at = at_of system (coarse_of system was.so.moves) n
+
+        IdlesThere : Type 0
+        IdlesThere = Idles system MayIdle at.object (at_of system at n)
+
+        as_it_was : (IdlesThere → at_of system at n ≡ strict_at) → Caught (suc n)
+        as_it_was own =
+            record {
+              so = was.so;
+              same = λ pid within there. of pid within there (eqb_tells pid n);
+            }
+          where
+            of : (pid : ℕ) → pid < suc n → pid < procs system
+                → ((eqb pid n ≡ true) × (pid ≡ n)) ⊎ ((eqb pid n ≡ false) × (pid ≢ n))
+                → Idles system MayIdle at.object (at_of system at pid)
+                → at_of system at pid ≡ at_of system (coarse_of system was.so.moves) pid
+            of pid within there (inl is) =
+                subst (λ (q : ℕ). Idles system MayIdle at.object (at_of system at q)
+                → at_of system at q ≡ at_of system (coarse_of system was.so.moves) q) (sym is.1)
+                own
+            of pid within there (inr differs) =
+                was.same pid (let not = differs.1 in grind arith) there
+
+        -- a process that asks in vain sleeps after that, and does not idle
+        vainly : (request : Request) → IsEarly (at_of system at n) strict_at
+            → system.machine.does (woken system strict_at) ≡ Next.Ask request
+            → AsksInVain system Goes (coarse_of system was.so.moves).object strict_at request
+            → IdlesThere → ⊥
+        vainly request early asks vain idles =
+            let asked = sym idles.asks ∙ (ap system.machine.does early.is ∙ asks) in
+            let same : idles.request ≡ request = cc in
+            let comes : system.machine.goes_on (woken system strict_at)
+            (Outcome.Replied (system.answer (coarse_of system was.so.moves).object request))
+            ≡ at_of system at n =
+            ap (λ (o : Object). system.machine.goes_on (woken system strict_at)
+            (Outcome.Replied (system.answer o request))) was.so.object
+            ∙ (ap (λ (r : Request). system.machine.goes_on (woken system strict_at)
+            (Outcome.Replied (system.answer at.object r))) (sym same)
+            ∙ (ap (λ (s : At). system.machine.goes_on s
+            (Outcome.Replied (system.answer at.object idles.request))) (sym early.is)
+            ∙ idles.again)) in
+            let both = sym vain.waits.sleeps ∙ (ap system.machine.does comes ∙ idles.asks) in cc
+
+        by : Fits (at_of system at n) strict_at → Caught (suc n)
+        by (IsSame is) = as_it_was (λ idles. is)
+        by (IsOneWait one alike) =
+            as_it_was (λ idles. absurd (let both = sym one.sleeps ∙ idles.asks in cc))
+        by (WasEarly early) =
+            either
+            (again was.so.moves was.so.all n early.rendez early.number low early.sleeps)
+          where
+            caught : Goes (coarse_of system was.so.moves).object strict_at → Caught (suc n)
+            caught goes =
+                record {
+                  so = done.0;
+                  same = λ pid within there. of pid within there (eqb_tells pid n);
+                }
+              where
+                done : (now : Strictly at)
+                    × (at_of system at n ≡ at_of system (coarse_of system now.moves) n)
+                done = catch_up at sized n low was.so early goes
+
+                of : (pid : ℕ) → pid < suc n → pid < procs system
+                    → ((eqb pid n ≡ true) × (pid ≡ n)) ⊎ ((eqb pid n ≡ false) × (pid ≢ n))
+                    → Idles system MayIdle at.object (at_of system at pid)
+                    → at_of system at pid ≡ at_of system (coarse_of system done.0.moves) pid
+                of pid within there (inl is) idles =
+                    subst (λ (q : ℕ). at_of system at q
+                    ≡ at_of system (coarse_of system done.0.moves) q) (sym is.1) done.1
+                of pid within there (inr differs) idles =
+                    was.same pid (let not = differs.1 in grind arith) there idles
+                    ∙ sym (state_other at sized n low (coarse_of system was.so.moves) Woken pid
+                    differs.1)
+
+            either : AsksAgainAtRest system Goes Rests (coarse_of system was.so.moves).object
+                strict_at
+                ⊎ SleepsOn system Goes Rests strict_at → Caught (suc n)
+            either (inr on) =
+                as_it_was (λ idles. absurd (let both = sym early.asks ∙ on.waits.sleeps in cc))
+            either (inl one) = comes one.comes
+              where
+                comes : Goes (coarse_of system was.so.moves).object strict_at
+                    ⊎ (AsksInVain system Goes (coarse_of system was.so.moves).object strict_at
+                    one.request
+                    × (Rests strict_at → Rests (system.machine.goes_on (woken system strict_at)
+                    (Outcome.Replied (system.answer (coarse_of system was.so.moves).object
+                    one.request)))))
+                    → Caught (suc n)
+                comes (inl goes) = caught goes
+                comes (inr vain) =
+                    as_it_was (λ idles. absurd (vainly one.request early one.asks vain.0 idles))
+
+    caught_all : Strictly at → (n : ℕ) → n ≤ procs system → Caught n
+    caught_all so zero low =
+        record { so = so; same = λ pid within there idles. absurd (omega (arith, within)) }
+    caught_all so (suc n) low =
+        caught_more n (omega (arith, low)) (caught_all so n (omega (arith, low)))
+
+  -- so they may be left out there too
+  all_idle_rest : (MayIdle : At → Type 0)
+      → IdleStuckAtRest system MayIdle Comes Rests Goes
+      → (moves : List (Move Request Reply)) → AreMoves system moves → AreUnrefused system moves
+      → AreHeardSo Comes moves
+      → IsObjectIdle system MayIdle Goes (coarse_of system moves)
+      → RestIn system Rests (coarse_of system moves)
+  all_idle_rest MayIdle never moves all unrefused heard stuck pid low =
+      rests pid low (stuck pid low) (never so.moves so.all so.unrefused so.strict so.heard
+      (λ q there. stands q there (stuck q there)) pid low)
+    where
+      at : Coarse system
+      at = coarse_of system moves
+
+      first : Strictly at × Sized at
+      first = strictly_after moves all unrefused heard
+
+      caught : Caught MayIdle at first.1 (procs system)
+      caught = caught_all MayIdle at first.1 first.0 (procs system) (omega arith)
+
+      so : Strictly at
+      so = caught.so
+
+      last : Coarse system
+      last = coarse_of system so.moves
+
+      stands : (q : ℕ) → q < procs system
+          → HasEnded (system.machine.does (at_of system at q))
+          ⊎ (WaitsBy system Goes at q ⊎ Idles system MayIdle at.object (at_of system at q))
+          → HasEnded (system.machine.does (at_of system last q))
+          ⊎ (WaitsBy system Goes last q ⊎ Idles system MayIdle last.object (at_of system last q))
+      stands q there (inr (inr idles)) =
+          inr (inr (subst (λ (o : Object). Idles system MayIdle o (at_of system last q))
+          (sym so.object)
+          (subst (Idles system MayIdle at.object) (caught.same q there there idles) idles)))
+      stands q there (inr (inl on)) = of (stuck_so at so q there (inr on))
+        where
+          of : HasEnded (system.machine.does (at_of system last q)) ⊎ WaitsBy system Goes last q
+              → HasEnded (system.machine.does (at_of system last q))
+              ⊎ (WaitsBy system Goes last q
+              ⊎ Idles system MayIdle last.object (at_of system last q))
+          of (inl over) = inl over
+          of (inr waits) = inr (inl waits)
+      stands q there (inl over) = of (stuck_so at so q there (inl over))
+        where
+          of : HasEnded (system.machine.does (at_of system last q)) ⊎ WaitsBy system Goes last q
+              → HasEnded (system.machine.does (at_of system last q))
+              ⊎ (WaitsBy system Goes last q
+              ⊎ Idles system MayIdle last.object (at_of system last q))
+          of (inl ends) = inl ends
+          of (inr waits) = inr (inl waits)
+
+      rests : (q : ℕ) → q < procs system
+          → HasEnded (system.machine.does (at_of system at q))
+          ⊎ (WaitsBy system Goes at q ⊎ Idles system MayIdle at.object (at_of system at q))
+          → Rests (at_of system last q) → Rests (at_of system at q)
+      rests q there (inl over) = rest_back at so q there (inl over)
+      rests q there (inr (inl on)) = rest_back at so q there (inr on)
+      rests q there (inr (inr idles)) =
+          subst Rests (sym (caught.same q there there idles))
 
   -- a run has the replies of its moves
   sleep_heard : (said : Answer) → IsHeardSo Comes (slept_grain system said)
@@ -620,6 +816,68 @@ such_rests_hold system Goes Rests Comes apart below due again never run of asked
           stays = λ goes. due moves all stuck pid low on goes;
         })
 
+-- and so of runs that have stopped but for processes that idle
+pub idle_rests_hold : {At Request Reply Out Object : Type 0}
+    (system : System At Request Reply Out Object) (MayIdle : At → Type 0)
+    (Goes : Object → At → Type 0) (Rests : At → Type 0) (Comes : Request → Reply → Type 0)
+    → IdleRestsHold system MayIdle Comes Rests Goes
+idle_rests_hold {At} {Request} {Reply} {Out} {Object} system MayIdle Goes Rests Comes apart below
+    due again never run of asked stopped pid low =
+    subst Rests (fine.coarse.states pid)
+    (all_idle_rest system Goes Rests Comes again MayIdle never moves fine.are
+    (no_sleep_is_refused system apart below run of)
+    (heard_in system Goes Rests Comes again run asked)
+    (λ q there. by q there (stuck q there)) pid low)
+  where
+    fine : Fine system (moves_of system run) run
+    fine = fine_run system run of
+
+    moves : List (Move Request Reply)
+    moves = moves_of system run
+
+    at : Coarse system
+    at = coarse_of system moves
+
+    own_at : ℕ → At
+    own_at q = (own_in system q run).at
+
+    -- who idles after the run idles there
+    idle_so : (q : ℕ) → Idles system MayIdle (object_at system run) (own_at q)
+        → Idles system MayIdle at.object (at_of system at q)
+    idle_so q idles =
+        subst (λ (o : Object). Idles system MayIdle o (at_of system at q)) (sym fine.coarse.object)
+        (subst (Idles system MayIdle (object_at system run)) (sym (fine.coarse.states q)) idles)
+
+    stuck : IsIdleStuck system MayIdle at
+    stuck q there =
+        last (is_stuck_so system run of
+        (λ r. Idles system MayIdle (object_at system run) (own_at r))
+        (λ r idles. (idles.request, idles.asks)) stopped q there)
+      where
+        last : HasEnded (system.machine.does (at_of system at q))
+            ⊎ (WaitsOn system at q ⊎ Idles system MayIdle (object_at system run) (own_at q))
+            → HasEnded (system.machine.does (at_of system at q))
+            ⊎ (WaitsOn system at q ⊎ Idles system MayIdle at.object (at_of system at q))
+        last (inl over) = inl over
+        last (inr (inl on)) = inr (inl on)
+        last (inr (inr idles)) = inr (inr (idle_so q idles))
+
+    by : (q : ℕ) → q < procs system
+        → HasEnded (system.machine.does (at_of system at q))
+        ⊎ (WaitsOn system at q ⊎ Idles system MayIdle at.object (at_of system at q))
+        → HasEnded (system.machine.does (at_of system at q))
+        ⊎ (WaitsBy system Goes at q ⊎ Idles system MayIdle at.object (at_of system at q))
+    by q there (inl over) = inl over
+    by q there (inr (inr idles)) = inr (inr idles)
+    by q there (inr (inl on)) =
+        inr (inl (record {
+          rendez = on.rendez;
+          number = on.number;
+          does = on.does;
+          none = on.none;
+          stays = λ goes. due moves fine.are stuck q there on goes;
+        }))
+
 -- any reply is one that may come
 any_reply : {Request Reply : Type 0} (act : Act Request Reply)
     → IsAskedSo (λ request reply. ⊤) act
@@ -658,8 +916,47 @@ module _ {At Request Reply Out Object : Type 0} (system : System At Request Repl
 
   over_alike : WaitsAskAgain system Goes → WaitsAskAtRest system Goes (IsOver system)
   over_alike again moves all pid rendez number low does =
-      over_at (coarse_of system moves).object (at_of system (coarse_of system moves) pid) rendez
-      number does (again moves all pid rendez number low does)
+      inl (over_at (coarse_of system moves).object (at_of system (coarse_of system moves) pid)
+      rendez number does (again moves all pid rendez number low does))
+
+-- and so whatever else may rest
+pub over_at_rest : {At Request Reply Out Object : Type 0}
+    (system : System At Request Reply Out Object) (Goes : Object → At → Type 0)
+    (Rests : At → Type 0) → WaitsAskAtRest system Goes Rests
+    → WaitsAskAtRest system Goes (IsOver system)
+over_at_rest system Goes Rests again moves all pid rendez number low does =
+    by (again moves all pid rendez number low does)
+  where
+    at : Coarse system
+    at = coarse_of system moves
+
+    none : IsOver system (at_of system at pid) → ⊥
+    none over = subst HasEnded does over
+
+    comes : (request : _) → Goes at.object (at_of system at pid)
+        ⊎ (AsksInVain system Goes at.object (at_of system at pid) request
+        × (Rests (at_of system at pid) → Rests (system.machine.goes_on
+        (woken system (at_of system at pid))
+        (Outcome.Replied (system.answer at.object request)))))
+        → Goes at.object (at_of system at pid)
+        ⊎ (AsksInVain system Goes at.object (at_of system at pid) request
+        × (IsOver system (at_of system at pid) → IsOver system (system.machine.goes_on
+        (woken system (at_of system at pid))
+        (Outcome.Replied (system.answer at.object request)))))
+    comes request (inl goes) = inl goes
+    comes request (inr vain) = inr (vain.0, λ over. absurd (none over))
+
+    by : AsksAgainAtRest system Goes Rests at.object (at_of system at pid)
+        ⊎ SleepsOn system Goes Rests (at_of system at pid)
+        → AsksAgainAtRest system Goes (IsOver system) at.object (at_of system at pid)
+        ⊎ SleepsOn system Goes (IsOver system) (at_of system at pid)
+    by (inl asks) =
+        inl (record {
+          request = asks.request;
+          asks = asks.asks;
+          comes = comes asks.request asks.comes;
+        })
+    by (inr on) = inr (record { waits = on.waits; rests = λ over. absurd (none over) })
 
 -- and no run deadlocks if none does
 pub strict_ends_hold : {At Request Reply Out Object : Type 0}

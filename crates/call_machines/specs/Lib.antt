@@ -2,6 +2,7 @@ pub mod Devices
 pub mod Ends
 pub mod Grain
 pub mod GrainEnds
+pub mod IdleRuns
 pub mod Machine
 pub mod Parts
 pub mod Plays

@@ -10,6 +10,7 @@ ghost use Rattle.call_machines.specs.GrainEnds.{
   UnrefusedEndsHold,
   UnrefusedRestsHold,
 };
+ghost use Rattle.call_machines.specs.IdleRuns.{IdleRestsHold};
 ghost use Rattle.call_machines.specs.Replies.{SuchRestsHold};
 ghost use Rattle.call_machines.specs.Runs.{System};
 ghost use Rattle.call_machines.specs.Schedules.{RunsAreSchedules, SchedulesAreRuns};
@@ -103,4 +104,14 @@ pub fn strict_ends_hold<A, Q, R, O, T>()
         → (comes : Q → R → Bool)
         → SuchRestsHold system (λ request reply. comes request reply ≡ true)
         (λ object at. goes object at ≡ true) (λ at. rests at ≡ true) }
+{}
+
+/// The same of runs that have stopped but for processes that idle: each asks again and again, and
+/// nothing comes of it.
+pub fn idle_rests_hold<A, Q, R, O, T>()
+    ensures { (system : System A Q R O T) → (idle : A → Bool) → (goes : T → A → Bool)
+        → (rests : A → Bool) → (comes : Q → R → Bool)
+        → IdleRestsHold system (λ at. idle at ≡ true)
+        (λ request reply. comes request reply ≡ true) (λ at. rests at ≡ true)
+        (λ object at. goes object at ≡ true) }
 {}

@@ -1,0 +1,10 @@
+pub mod InnerMoves
+pub mod InvariantLemmas
+pub mod MoveLemmas
+pub mod NoteFacts
+pub mod ObjectNotes
+pub mod PositionLemmas
+pub mod ProgramTimers
+pub mod TimedObjectLemmas
+pub mod TimerFacts
+pub mod WorkedTimers

@@ -1,0 +1,4 @@
+pub mod NotesKept
+pub mod TimedCalls
+pub mod TimedEnds
+pub mod TimedObjects
