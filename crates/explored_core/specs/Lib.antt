@@ -1,0 +1,4 @@
+pub mod CorePrograms
+pub mod Spots
+pub mod CoreSteps
+pub mod CoreEnds

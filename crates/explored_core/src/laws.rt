@@ -1,0 +1,26 @@
+//! What the explorer's machine says of sleeps, wakeups and notes. Each law is a function that does
+//! nothing: its contract is the law.
+ghost use Rattle.explored_core.specs.CorePrograms.{CoreProgramsAreTold};
+ghost use Rattle.explored_core.specs.CoreSteps.{CoreCallsAreSchedules, CoreProgramsDoTheSame};
+ghost use Rattle.explored_core.specs.CoreSteps.{PlayedSchedulesAreOfCore};
+ghost use Rattle.explored_core.specs.CoreEnds.{CoreRunsEnd, LibraryRunsAreExplored};
+
+/// A program of lines whose processes make sleeps, wakeups, notes and drains, one after another,
+/// does what the program of the core does that has these lists of calls: step by step each process
+/// makes the same event there, with the same answer, and it leads to the same position. So each
+/// schedule of the core, but for looks that find nothing, is one of the machine that is explored,
+/// and each of that machine's is one of the core; and where the one is stuck the other is.
+pub fn core_calls_are_schedules()
+    ensures told { CoreProgramsAreTold }
+    ensures steps { CoreProgramsDoTheSame }
+    ensures schedules { CoreCallsAreSchedules }
+    ensures back { PlayedSchedulesAreOfCore }
+{}
+
+/// Each run in which processes make the library's calls of their lists, as far as it has come, is
+/// one of the machine that is explored, not counting steps that change nothing: with the same events
+/// and answers, to the same world. So if that machine is never stuck, no such run deadlocks.
+pub fn core_runs_end()
+    ensures runs { LibraryRunsAreExplored }
+    ensures ends { CoreRunsEnd }
+{}
