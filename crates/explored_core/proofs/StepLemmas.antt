@@ -32,7 +32,8 @@ use Rattle.schedules.specs.declared.call.Call.TheVariants as calling
 use Rattle.schedules.specs.LibraryRuns.{Names}
 use Rattle.schedules.specs.Position.{Position as CorePosition, call_of, is_idle, moved, place_of}
 use Rattle.schedules.specs.Position as scheduled
-use Rattle.schedules.specs.Program.{Program as CoreProgram, calls_of, event_in, proc}
+use Rattle.schedules.specs.Program.{Program as CoreProgram, event_in, proc}
+use Rattle.schedules.specs.Program as listed
 use Rattle.schedules.proofs.MoveLemmas.{Fits}
 use Rattle.schedules.proofs.ValidPositions.{IsOfCalls, IsSized}
 use Rattle.calls.specs.declared.course.Course.TheVariants as course
@@ -52,10 +53,10 @@ use Rattle.calls.specs.Sleeps as sleeps
 use Rattle.explored_core.specs.CorePrograms.{IsOfCore, made_of}
 use Rattle.explored_core.specs.Spots.{place_after, posted_in, process_at, process_with, rendez_at}
 use Rattle.explored_core.specs.Spots.{spot_of, standing_in}
-use Rattle.explored_core.proofs.LineLemmas.{one_more}
+use Rattle.explored_core.proofs.LineLemmas.{is_named, one_more}
 use Rattle.explored_core.proofs.ListLemmas.{becomes_one, below, found_at}
-use Rattle.explored_core.proofs.SpotLemmas.{IsCalling, calls_or_ended, line_place, plain, process_is}
-use Rattle.explored_core.proofs.SpotLemmas.{rendez_is, spot, world_by}
+use Rattle.explored_core.proofs.SpotLemmas.{IsCalling, calls_or_ended, held_is, line_place, not_held}
+use Rattle.explored_core.proofs.SpotLemmas.{plain, process_is, world_by}
 
 -- the number of a process that is posted
 pub posted_is : (pid : ℕ) → posted_in (posted_as pid) ≡ Some pid
@@ -726,3 +727,88 @@ module _ (program : Program) (core : CoreProgram) (is : IsProgram program)
         (world_by s (Drain (proc pid)) phase.Idle has_phase so
         (told_low pid (length s.flags) (has_flags pid low)) (answer.Notes (flags_of s pid).notes)
         refl)
+
+    -- ---- each call in each phase
+
+    same_procs : (other : ℕ) → other < listed.procs_of core → other < procs_of program
+    same_procs other there = let many = of_core.procs in omega (arith, there, many)
+
+    step_in : (stage : Phase) (made : CoreCall) → phase_of s pid ≡ stage → Fits (Some made) stage
+        → Names core made
+        → went_at program from pid (plain made line) (standing_in stage)
+        ≡ spot_of program (moved at pid (event_in pid stage made))
+    step_in phase.Idle (calling.Sleep r t) so fits names = posts r t names.0 names.1 so
+    step_in phase.Idle (calling.Wakeup r l) so fits names = raises r l names so
+    step_in phase.Idle (calling.Note other set) so fits names =
+        posts_notes other set (same_procs other.0 names) so
+    step_in phase.Idle calling.Drain so fits names = drains so
+    step_in (phase.Posted q v) (calling.Sleep r t) so fits names = tests r t names.0 (so ∙ fits)
+    step_in (phase.Posted q v) made so fits names = absurd cc
+    step_in (phase.Asleep q v) (calling.Sleep r t) so fits names = looks r t names.0 (so ∙ fits)
+    step_in (phase.Asleep q v) made so fits names = absurd cc
+    step_in (phase.Leaving q) (calling.Sleep r t) so fits names =
+        withdraws r t names.0 (so ∙ fits)
+    step_in (phase.Leaving q) made so fits names = absurd cc
+    step_in phase.Awaiting (calling.Sleep r t) so fits names = awaits r t names.0 so
+    step_in phase.Awaiting made so fits names = absurd cc
+    step_in phase.Woken (calling.Sleep r t) so fits names =
+        clears r t names.0 phase.Woken so (told_low pid (length s.flags) (has_flags pid low))
+        refl refl refl
+    step_in phase.Woken made so fits names = absurd cc
+    step_in phase.Out (calling.Sleep r t) so fits names =
+        clears r t names.0 phase.Out so (told_low pid (length s.flags) (has_flags pid low))
+        refl refl refl
+    step_in phase.Out made so fits names = absurd cc
+    step_in (phase.Owing q v) (calling.Wakeup r l) so fits names = takes r l names (so ∙ fits)
+    step_in (phase.Owing q v) made so fits names = absurd cc
+    step_in (phase.Holding p q v) (calling.Wakeup r l) so fits names =
+        marks r l names p
+        (same_procs p.0 (subst (IsPhaseIn (listed.procs_of core) core.rendez) so
+        (sized.within pid)).0)
+        (so ∙ (fits ∙ held_is p.0 r l))
+    step_in (phase.Holding p q v) (calling.Sleep r t) so fits names =
+        absurd (let none = fits ∙ not_held p.0 r t in cc)
+    step_in (phase.Holding p q v) (calling.Note other set) so fits names = absurd cc
+    step_in (phase.Holding p q v) calling.Drain so fits names = absurd cc
+
+  -- so each step leads to the spot of where it leads
+  pub leaves : (pid : ℕ) → pid < procs_of program
+      → after_of program from pid ≡ spot_of program (scheduled.after_of core at pid)
+  leaves pid low =
+      ap (λ (b : Bool). if b then explored.moved program from pid else explored.ended_of program)
+      (told_low pid (procs_of program + procs_of program) (omega (arith, low)))
+      ∙ (ap (λ (b : Bool). if b then went program from pid (slice_get from.processes pid)
+      else explored.turned program from (pid - procs_of program)
+      (slice_get from.processes (pid - procs_of program)))
+      (told_low pid (procs_of program) low)
+      ∙ (ap (went program from pid)
+      (process_is program core is of_core top at sized of_calls pid low)
+      ∙ by_line (calls_or_ended program core is of_core top at sized of_calls pid low)))
+    where
+      by_line : IsCalling program core is of_core top at sized of_calls pid
+          ⊎ ((call_of core at pid ≡ None)
+          × (slice_get program.lines (line_place program core is of_core top at sized of_calls pid)
+          ≡ None))
+          → went_by program from pid (standing_in (phase_of s pid))
+          (slice_get program.lines (line_place program core is of_core top at sized of_calls pid))
+          ≡ spot_of program (scheduled.after_of core at pid)
+      by_line (inr none) =
+          ap (went_by program from pid (standing_in (phase_of s pid))) none.1
+          ∙ sym (ap (λ (next : Option CoreCall).
+          spot_of program (scheduled.after_at at pid (scheduled.event_at at pid next))) none.0)
+      by_line (inl calls) =
+          ap (went_by program from pid (standing_in (phase_of s pid))) calls.found
+          ∙ (step_in pid low calls.line
+          (ap (place_after program.lines (get_or program.starts pid 0))
+          (let more : place_of at pid + 1 ≡ suc (place_of at pid) = omega arith in more)
+          ∙ (one_more program.lines (get_or program.starts pid 0) (place_of at pid)
+          ∙ ap (λ (there : Option Line). next_of there
+          (place_after program.lines (get_or program.starts pid 0) (place_of at pid)))
+          calls.found))
+          (phase_of s pid) calls.made refl
+          (subst (λ (next : Option CoreCall). Fits next (phase_of s pid)) calls.is_made
+          (of_calls.fits pid))
+          (is_named program core is of_core pid (place_of at pid) calls.made calls.is_made)
+          ∙ sym (ap (λ (next : Option CoreCall).
+          spot_of program (scheduled.after_at at pid (scheduled.event_at at pid next)))
+          calls.is_made))

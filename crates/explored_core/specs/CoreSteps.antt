@@ -173,7 +173,7 @@ pub record DoesTheSame (program : Program) (core : CoreProgram) : Type 0 where
       ≡ scheduled.status_of core (position_of core past) pid
   pub leaves : (past : List Entry) (pid : ℕ)
       → IsSchedule core past
-      → scheduled.status_of core (position_of core past) pid ≡ status.Ready
+      → pid < procs_of program
       → after_of program (spot_of program (position_of core past)) pid
       ≡ spot_of program (scheduled.after_of core (position_of core past) pid)
   pub no_others : (past : List Entry) (mover : ℕ)
