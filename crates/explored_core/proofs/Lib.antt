@@ -2,3 +2,4 @@ pub mod ListLemmas
 pub mod LineLemmas
 pub mod SpotLemmas
 pub mod StepLemmas
+pub mod RunLemmas
