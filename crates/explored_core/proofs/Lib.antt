@@ -1,5 +1,7 @@
 pub mod ListLemmas
 pub mod LineLemmas
+pub mod ToldLemmas
 pub mod SpotLemmas
 pub mod StepLemmas
 pub mod RunLemmas
+pub mod EndLemmas

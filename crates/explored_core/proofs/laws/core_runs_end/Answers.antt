@@ -1,0 +1,9 @@
+-- A run of the library's calls is a schedule, and that is played.
+use Rattle.explored_core.proofs.EndLemmas.{library_runs, runs_end}
+use Rattle.explored_core.proofs.laws.core_runs_end.Goals as goal
+
+pub returns-clause-runs : goal.returns-clause-runs
+returns-clause-runs c = library_runs
+
+pub returns-clause-ends : goal.returns-clause-ends
+returns-clause-ends c = runs_end
