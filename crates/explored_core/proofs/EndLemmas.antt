@@ -1,7 +1,6 @@
 -- Runs of the library's calls, in the machine that is explored.
 use Rattle.std.proofs.Common.{◌≡◌, Bool, true, false, cond, not, List, [], ◌∷◌, refl, sym, ◌∙◌, ap}
 use Rattle.std.proofs.Common.{subst}
-use Rattle.rendez_words.specs.declared.words.Words.{Words}
 use Rattle.searches.specs.Schedule as movers
 use Rattle.sleep_core.specs.declared.answer.Answer.{Answer}
 use Rattle.sleep_core.specs.declared.answer.Answer.TheVariants as answer
@@ -10,16 +9,11 @@ use Rattle.sleep_core.specs.Runs.{Entry, is_kept, kept}
 use Rattle.sleep_core.specs.State.{bare}
 use Rattle.sleep_core.specs.Step.{is_parked}
 use Rattle.schedules.specs.LibraryRuns.{IsAsScheduled}
-use Rattle.schedules.specs.Position.{Position as CorePosition}
-use Rattle.schedules.specs.Program.{Program as CoreProgram}
-use Rattle.schedules.specs.Schedule.{NeverStuck, position_of}
+use Rattle.schedules.specs.Schedule.{position_of}
 use Rattle.schedules.proofs.LibraryEnds.{unstuck_runs_end}
 use Rattle.schedules.proofs.LibraryLemmas.{runs_are_schedules}
 use Rattle.calls.specs.Machine.{system_of}
-use Rattle.calls.specs.Position.{Position}
-use Rattle.calls.specs.Program.{IsProgram, Program}
-use Rattle.explored_core.specs.CoreEnds.{CoreRunsEnd, IsExplored, LibraryRunsAreExplored}
-use Rattle.explored_core.specs.CorePrograms.{IsOfCore}
+use Rattle.explored_core.specs.CoreEnds.{CoreRunsEnd, LibraryRunsAreExplored}
 use Rattle.explored_core.specs.CoreSteps.{IsPlayed, core_run, makers_of, moves_of, world_at}
 use Rattle.explored_core.proofs.LineLemmas.{is_named}
 use Rattle.explored_core.proofs.RunLemmas.{do_the_same, played}

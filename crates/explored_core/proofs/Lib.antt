@@ -3,5 +3,6 @@ pub mod LineLemmas
 pub mod ToldLemmas
 pub mod SpotLemmas
 pub mod StepLemmas
+pub mod FewerMovers
 pub mod RunLemmas
 pub mod EndLemmas

@@ -1,19 +1,15 @@
 -- The lines of a process and its list of calls.
-use Rattle.std.proofs.Common.{◌≡◌, ◌≤◌, ◌<◌, ◌+◌, ◌-◌, ◌&&◌, ℕ, zero, suc, Bool, true, false}
-use Rattle.std.proofs.Common.{nat_lt, Option, Some, None, List, [], ◌∷◌, length, drop, get_or, refl, sym}
+use Rattle.std.proofs.Common.{◌≡◌, ◌≤◌, ◌<◌, ◌-◌, ℕ, zero, suc, Bool, true}
+use Rattle.std.proofs.Common.{Option, Some, None, List, [], ◌∷◌, length, drop, get_or, refl, sym}
 use Rattle.std.proofs.Common.{◌∙◌, ap, subst, arith}
 use Rattle.std.specs.List.{list_all}
 use Rattle.std.specs.Prelude.{slice_get}
 use Rattle.std.proofs.lemmas.Bool.Decides.{nat_tests}
 use Rattle.std.proofs.lemmas.List.{length-drop}
-use Rattle.sync_base.specs.declared.limits.TheConstants.{TOP_LEVEL}
 use Rattle.schedules.specs.declared.call.Call.{Call as CoreCall}
 use Rattle.schedules.specs.declared.call.Call.TheVariants as calling
 use Rattle.schedules.specs.LibraryRuns.{IsNamed, Names}
 use Rattle.schedules.specs.Program.{Program as CoreProgram, call_at, calls_of}
-use Rattle.schedules.specs.Program as listed
-use Rattle.calls.specs.declared.call.Call.{Call}
-use Rattle.calls.specs.declared.call.Sizes.{Sizes}
 use Rattle.calls.specs.declared.line.Line.{Line}
 use Rattle.calls.specs.Calls.{can_call}
 use Rattle.calls.specs.Lines.{next_of}

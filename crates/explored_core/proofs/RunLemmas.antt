@@ -1,12 +1,12 @@
 -- Schedules of the core, and those of the machine that is explored: each is one of the other.
-use Rattle.std.proofs.Common.{◌≡◌, ◌⊎◌, inl, inr, ◌≤◌, ◌<◌, ◌+◌, ◌&&◌, ◌||◌, ℕ, zero, suc, Bool, true}
-use Rattle.std.proofs.Common.{false, not, leb, cond, if◌then◌else◌, Option, Some, None, List, [], ◌∷◌}
-use Rattle.std.proofs.Common.{map, refl, sym, ◌∙◌, ap, subst, arith}
+use Rattle.std.proofs.Common.{◌≡◌, ◌⊎◌, inl, inr, ◌≤◌, ◌<◌, ◌&&◌, ◌||◌, ℕ, zero, suc, Bool, true}
+use Rattle.std.proofs.Common.{false, not, leb, cond, Option, Some, List, [], ◌∷◌}
+use Rattle.std.proofs.Common.{refl, sym, ◌∙◌, ap, subst, arith}
 use Rattle.std.proofs.lemmas.Bool.Decides.{leb_tells}
 use Rattle.sleep_core.specs.declared.answer.Answer.{Answer}
 use Rattle.sleep_core.specs.declared.event.Event.{Event}
 use Rattle.sleep_core.specs.Runs.{Entry}
-use Rattle.sleep_core.specs.State.{State, bare}
+use Rattle.sleep_core.specs.State.{State}
 use Rattle.sleep_core.specs.Step.{answer_to, is_parked}
 use Rattle.sleep_core.proofs.BareLemmas.{answer_to-bare}
 use Rattle.searches.specs.declared.status.Status.{Status}
@@ -22,7 +22,7 @@ use Rattle.schedules.proofs.EndLemmas.{answer_is, before, parked_same}
 use Rattle.schedules.proofs.PathLemmas.{Goes, after_is, goes_of, next_schedule, ready_of}
 use Rattle.schedules.proofs.ScheduleLemmas.{maker_within, of_calls_of, sized_of}
 use Rattle.schedules.proofs.TopLemmas.{top_is}
-use Rattle.schedules.proofs.ValidPositions.{IsOfCalls, IsSized}
+use Rattle.schedules.proofs.ValidPositions.{IsOfCalls}
 use Rattle.calls.specs.Machine.{system_of}
 use Rattle.calls.specs.Position.{Position, after_of, status_of}
 use Rattle.calls.specs.Program.{IsProgram, Program, procs_of}
@@ -31,6 +31,7 @@ use Rattle.explored_core.specs.CoreSteps.{CoreCallsAreSchedules, CoreProgramsDoT
 use Rattle.explored_core.specs.CoreSteps.{IsOfSchedule, IsPlayed, PlayedSchedulesAreOfCore, core_run}
 use Rattle.explored_core.specs.CoreSteps.{event_at, makers_of, moves_of, with_event, world_at}
 use Rattle.explored_core.specs.Spots.{spot_of}
+use Rattle.explored_core.proofs.FewerMovers.{some_few, some_same}
 use Rattle.explored_core.proofs.SpotLemmas.{can, does, no_others, opens, world_is}
 use Rattle.explored_core.proofs.StepLemmas.{leaves}
 
@@ -55,41 +56,6 @@ do_the_same program core is of_core =
     of_calls : (past : List Entry) → IsSchedule core past
         → IsOfCalls core (top_of core) (position_of core past)
     of_calls past schedule = of_calls_of core (top_of core) (top_is core) past schedule
-
--- ---- tests of some
-
--- a test that none above a number passes is passed below it
-some_few : (test : ℕ → Bool) (few many : ℕ) → few ≤ many
-    → ((i : ℕ) → few ≤ i → i < many → test i ≡ false)
-    → some_below test many ≡ some_below test few
-some_few test few zero low none =
-    ap (some_below test) (let same : 0 ≡ few = omega (arith, low) in same)
-some_few test few (suc many) low none =
-    by_place (leb_tells few many)
-    (λ more. some_few test few many more (λ i high there. none i high (omega (arith, there))))
-  where
-    or_false : (b : Bool) → (b || false) ≡ b
-    or_false true = refl
-    or_false false = refl
-
-    by_place : ((leb few many ≡ true) × (few ≤ many)) ⊎ ((leb few many ≡ false) × (many < few))
-        → (few ≤ many → some_below test many ≡ some_below test few)
-        → some_below test (suc many) ≡ some_below test few
-    by_place (inl more) rest =
-        ap (λ (b : Bool). some_below test many || b) (none many more.1 (omega arith))
-        ∙ (or_false (some_below test many) ∙ rest more.1)
-    by_place (inr no_more) rest =
-        ap (some_below test)
-        (let over = no_more.1 in let same : suc many ≡ few = omega (arith, low, over) in same)
-
--- two tests that are one are passed alike
-some_same : (test other : ℕ → Bool) (n : ℕ) → ((i : ℕ) → i < n → test i ≡ other i)
-    → some_below test n ≡ some_below other n
-some_same test other zero same = refl
-some_same test other (suc n) same =
-    ap (λ (b : Bool). b || test n)
-    (some_same test other n (λ i low. same i (omega (arith, low))))
-    ∙ ap (λ (b : Bool). some_below other n || b) (same n (omega arith))
 
 module _ (program : Program) (core : CoreProgram) (is : IsProgram program)
     (of_core : IsOfCore program core) where
@@ -228,8 +194,7 @@ module _ (program : Program) (core : CoreProgram) (is : IsProgram program)
           → ArePlayed past (moves_of past) → ArePlayed (entry ∷ past) (moves_of (entry ∷ past))
       by_parked true parked so =
           subst (ArePlayed (entry ∷ past))
-          (sym (ap (λ (b : Bool). cond (not b) (entry ∷ moves_of past) (moves_of past)) parked))
-          (
+          (sym (ap (λ (b : Bool). cond (not b) (entry ∷ moves_of past) (moves_of past)) parked)) (
             so.0,
             so.1,
             so.2 ∙ ap (spot_of program) (sym (parked_same core entry past schedule parked)),
@@ -291,8 +256,7 @@ module _ (program : Program) (core : CoreProgram) (is : IsProgram program)
           (sym (event_more (core_run program past) so.0 mover goes.event
           (answer_to (position_of core (core_run program past)).world goes.event)
           (movers.position_of (system_of program) past) (core_run program past)
-          (core_run program past) low so.3 goes.makes refl refl))
-          (
+          (core_run program past) low so.3 goes.makes refl refl)) (
             next_schedule core (core_run program past) mover goes.event so.0 goes.makes,
             ap (λ (l : List ℕ). mover ∷ l) so.1,
             ap (λ (b : Bool). cond (not b) (record {

@@ -1,13 +1,11 @@
 -- What a process can do in the machine that is explored, where a schedule of the core is here.
-use Rattle.std.proofs.Common.{◌≡◌, ◌≢◌, ◌⊎◌, inl, inr, ◌≤◌, ◌<◌, ◌+◌, ◌-◌, ◌&&◌, ◌||◌, ◌==◌, ℕ, zero, suc}
-use Rattle.std.proofs.Common.{Bool, true, false, nat_lt, if◌then◌else◌, not, Option, Some, None, List}
-use Rattle.std.proofs.Common.{[], ◌∷◌, length, map, get_or, replicate, refl, sym, ◌∙◌, ap, subst, arith}
+use Rattle.std.proofs.Common.{◌≡◌, ◌⊎◌, inl, inr, ◌≤◌, ◌<◌, ◌+◌, ◌-◌, ◌&&◌, ◌||◌, ◌==◌, ℕ, zero, suc}
+use Rattle.std.proofs.Common.{Bool, true, false, nat_lt, if◌then◌else◌, Option, Some, None, List}
+use Rattle.std.proofs.Common.{[], length, map, get_or, replicate, refl, sym, ◌∙◌, ap, subst, arith}
 use Rattle.std.specs.List.{list_all, list_any, range_with_len}
 use Rattle.std.specs.Prelude.{slice_get}
 use Rattle.std.proofs.lemmas.Bool.Decides.{nat_tests}
-use Rattle.std.proofs.lemmas.List.{length-map}
 use Rattle.sync_base.specs.declared.ids.RendezId.{RendezId}
-use Rattle.sync_base.specs.NoteSet.{no_notes}
 use Rattle.sleep_core.specs.declared.answer.Answer.{Answer}
 use Rattle.sleep_core.specs.declared.answer.Answer.TheVariants as answer
 use Rattle.sleep_core.specs.declared.event.Event.{Event}
@@ -18,12 +16,10 @@ use Rattle.sleep_core.specs.declared.phase.Phase.{Phase}
 use Rattle.sleep_core.specs.declared.phase.Phase.TheVariants as phase
 use Rattle.sleep_core.specs.declared.phase.ProcFlags.{ProcFlags}
 use Rattle.sleep_core.specs.State.{State, bare, flags_of, level_of, no_flags, phase_of, posted_of}
-use Rattle.sleep_core.specs.State.{IsPhaseIn}
 use Rattle.sleep_core.specs.Table.{cell_of, has_notes, pid_of, reply}
 use Rattle.sleep_core.specs.Step.{answer_in, answer_to, has_cell, is_parked, word_at, world_after}
 use Rattle.sleep_core.specs.Step.{world_told}
 use Rattle.sleep_core.proofs.CoreRuns.{get_or-replicate_same}
-use Rattle.searches.specs.declared.status.Status.{Status}
 use Rattle.searches.specs.declared.status.Status.TheVariants as status
 use Rattle.schedules.specs.declared.call.Call.{Call as CoreCall}
 use Rattle.schedules.specs.declared.call.Call.TheVariants as calling
@@ -38,7 +34,6 @@ use Rattle.schedules.proofs.ValidPositions.{IsOfCalls, IsSized}
 use Rattle.calls.specs.declared.course.Course.TheVariants as course
 use Rattle.calls.specs.declared.line.Line.{Line}
 use Rattle.calls.specs.declared.process.Process.{Process}
-use Rattle.calls.specs.declared.process.Standing.{Standing}
 use Rattle.calls.specs.declared.rendez.Rendez.{Rendez}
 use Rattle.calls.specs.Pipes.{empty_direction}
 use Rattle.calls.specs.Position.{Position, begins_round, can_end, ending_of, moves, opening_of, rests}
@@ -53,7 +48,7 @@ use Rattle.explored_core.specs.CoreSteps.{phase_in, phase_of_one, word_of, world
 use Rattle.explored_core.specs.CoreSteps as steps
 use Rattle.explored_core.specs.Spots.{place_after, posted_in, process_at, process_with, rendez_at, spot_of}
 use Rattle.explored_core.specs.Spots.{standing_in}
-use Rattle.explored_core.proofs.LineLemmas.{HasLine, is_there, line_at, no_line, spot_place}
+use Rattle.explored_core.proofs.LineLemmas.{HasLine, line_at, no_line, spot_place}
 use Rattle.explored_core.proofs.ListLemmas.{below, below_same, found_at, list_is, map_is}
 use Rattle.explored_core.proofs.ListLemmas.{replicate_is}
 
@@ -213,8 +208,11 @@ module _ (program : Program) (core : CoreProgram) (is : IsProgram program)
           → IsCalling pid
           ⊎ ((call_of core at pid ≡ None) × (slice_get program.lines (line_place pid) ≡ None))
       by_call None none =
-          inr (none, no_line program.lines (get_or program.starts pid 0) (calls_of core pid)
-          (place_of at pid) (of_core.lists pid low) none)
+          inr (
+            none,
+            no_line program.lines (get_or program.starts pid 0) (calls_of core pid)
+                (place_of at pid) (of_core.lists pid low) none,
+          )
       by_call (Some made) found = inl (with_line (line_at program core is of_core pid (place_of at pid) made found))
         where
           with_line : HasLine program.lines (line_place pid) made → IsCalling pid

@@ -1,7 +1,7 @@
 -- Where a step leads in the machine that is explored, and where it leads in a schedule of the core.
-use Rattle.std.proofs.Common.{◌≡◌, ◌≢◌, ◌⊎◌, inl, inr, ◌≤◌, ◌<◌, ◌+◌, ◌-◌, ◌==◌, ℕ, zero, suc, Bool}
+use Rattle.std.proofs.Common.{◌≡◌, ◌≢◌, ◌⊎◌, inl, inr, ◌<◌, ◌+◌, ◌-◌, ◌==◌, ℕ, zero, suc, Bool}
 use Rattle.std.proofs.Common.{true, false, nat_lt, if◌then◌else◌, eqb, max, Option, Some, None, List}
-use Rattle.std.proofs.Common.{[], ◌∷◌, length, get_or, refl, sym, ◌∙◌, ap, subst, arith}
+use Rattle.std.proofs.Common.{length, get_or, refl, sym, ◌∙◌, ap, subst, arith}
 use Rattle.std.specs.Prelude.{replicate, slice_get, slice_set}
 use Rattle.std.proofs.lemmas.Bool.Decides.{eqb_tells, nat_tests}
 use Rattle.std.proofs.lemmas.List.{get_or-set_other, get_or-set_same, set-get_or}
@@ -21,12 +21,11 @@ use Rattle.sleep_core.specs.declared.phase.Phase.TheVariants as phase
 use Rattle.sleep_core.specs.declared.phase.ProcFlags.{ProcFlags}
 use Rattle.sleep_core.specs.State.{IsPhaseIn, State, flags_of, level_of, no_flags, nobody, phase_of}
 use Rattle.sleep_core.specs.State.{posted_as, posted_of, sleeper_in}
-use Rattle.sleep_core.specs.Table.{cell_of, ending_of, has_notes, pid_of, reply}
+use Rattle.sleep_core.specs.Table.{cell_of, ending_of, has_notes, reply}
 use Rattle.sleep_core.specs.Table.Cell.{PostedOf}
 use Rattle.sleep_core.specs.Table.Word.{Number}
-use Rattle.sleep_core.specs.Step.{answer_to, with_word, has_cell, is_parked, with_flags, with_level}
+use Rattle.sleep_core.specs.Step.{with_word, has_cell, with_flags, with_level}
 use Rattle.sleep_core.specs.Step.{with_phase, with_posted, word_at, world_after, world_told}
-use Rattle.searches.specs.declared.status.Status.TheVariants as status
 use Rattle.schedules.specs.declared.call.Call.{Call as CoreCall}
 use Rattle.schedules.specs.declared.call.Call.TheVariants as calling
 use Rattle.schedules.specs.LibraryRuns.{Names}
@@ -39,7 +38,6 @@ use Rattle.schedules.proofs.ValidPositions.{IsOfCalls, IsSized}
 use Rattle.calls.specs.declared.course.Course.TheVariants as course
 use Rattle.calls.specs.declared.line.Line.{Line}
 use Rattle.calls.specs.declared.process.Process.{Process}
-use Rattle.calls.specs.declared.process.Standing.{Standing}
 use Rattle.calls.specs.declared.process.Standing.TheVariants as standing
 use Rattle.calls.specs.declared.rendez.Rendez.{Rendez}
 use Rattle.calls.specs.declared.rendez.Stage.{Stage}
@@ -50,7 +48,7 @@ use Rattle.calls.specs.Position.{Position, after_of, becomes, went, went_at, wen
 use Rattle.calls.specs.Position as explored
 use Rattle.calls.specs.Program.{IsProgram, Program, procs_of}
 use Rattle.calls.specs.Sleeps as sleeps
-use Rattle.explored_core.specs.CorePrograms.{IsOfCore, made_of}
+use Rattle.explored_core.specs.CorePrograms.{IsOfCore}
 use Rattle.explored_core.specs.Spots.{place_after, posted_in, process_at, process_with, rendez_at}
 use Rattle.explored_core.specs.Spots.{spot_of, standing_in}
 use Rattle.explored_core.proofs.LineLemmas.{is_named, one_more}

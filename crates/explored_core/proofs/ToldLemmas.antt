@@ -1,18 +1,16 @@
 -- A program that is told to be of the core is of the core.
 use Rattle.std.proofs.Common.{◌≡◌, ◌<◌, ◌==◌, ◌&&◌, ℕ, zero, suc, Bool, true, false, not, if◌then◌else◌}
-use Rattle.std.proofs.Common.{Option, Some, None, List, [], ◌∷◌, length, get_or, refl, sym, ◌∙◌, ap}
+use Rattle.std.proofs.Common.{Option, Some, None, List, [], ◌∷◌, length, get_or, refl, ap}
 use Rattle.std.proofs.Common.{subst, arith}
 use Rattle.std.specs.Prelude.{option_map, slice_get}
 use Rattle.std.proofs.lemmas.Bool.Decides.{nat_tests}
 use Rattle.std.proofs.lemmas.Option.{same_Some}
 use Rattle.schedules.specs.declared.call.Call.{Call as CoreCall}
 use Rattle.schedules.specs.declared.call.Call.TheVariants as calling
-use Rattle.schedules.specs.Program.{Program as CoreProgram}
 use Rattle.calls.specs.declared.call.Call.{Call}
 use Rattle.calls.specs.declared.call.Call.TheVariants as call
 use Rattle.calls.specs.declared.line.Line.{Line}
 use Rattle.calls.specs.Lines.{next_of}
-use Rattle.calls.specs.Program.{Program}
 use Rattle.explored_core.specs.CorePrograms.{AreFrom, CoreProgramsAreTold, IsLineOf, IsOfCore, before}
 use Rattle.explored_core.specs.CorePrograms.{call_in, calls_at, calls_from, core_call, lists_from}
 use Rattle.explored_core.specs.CorePrograms.{made_of}
@@ -101,8 +99,7 @@ module _ (lines : List Line) where
           with_both : HasBoth (call_in line) (calls_from lines most line.next) calls
               → AreFrom lines place calls
           with_both both =
-              subst (AreFrom lines place) both.are_all
-              (
+              subst (AreFrom lines place) both.are_all (
                 line,
                 found,
                 line_is line both.one both.is_first,

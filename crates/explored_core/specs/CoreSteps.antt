@@ -1,5 +1,5 @@
 -- The steps of a program of the core as events of the core.
-use Rattle.std.specs.Prelude.{◌≡◌, ◌≤◌, ◌<◌, ◌+◌, ℕ, true, not, Option, Some, None, List, []}
+use Rattle.std.specs.Prelude.{◌≡◌, ◌≤◌, ◌<◌, ℕ, not, Option, Some, None, List, []}
 use Rattle.std.specs.Prelude.{◌∷◌, filter, map, slice_get}
 use Rattle.sync_base.specs.declared.ids.RendezId.{RendezId}
 use Rattle.sleep_core.specs.declared.event.Event.{Event}

@@ -1,5 +1,5 @@
 -- A position of a program of the core as one of the machine that is explored.
-use Rattle.std.specs.Prelude.{◌≡◌, ◌≤◌, ◌<◌, ℕ, zero, suc, Option, Some, None, List}
+use Rattle.std.specs.Prelude.{ℕ, zero, suc, Option, Some, None, List}
 use Rattle.std.specs.Prelude.{length, map, replicate, slice_get, slice_index}
 use Rattle.std.specs.List.{range_with_len}
 use Rattle.sleep_core.specs.declared.phase.Phase.{Phase}
