@@ -6,3 +6,4 @@ pub mod StepLemmas
 pub mod FewerMovers
 pub mod RunLemmas
 pub mod EndLemmas
+pub mod VerdictLemmas

@@ -2,3 +2,4 @@ pub mod CorePrograms
 pub mod Spots
 pub mod CoreSteps
 pub mod CoreEnds
+pub mod CoreVerdicts

@@ -4,6 +4,7 @@ ghost use Rattle.explored_core.specs.CorePrograms.{CoreProgramsAreTold};
 ghost use Rattle.explored_core.specs.CoreSteps.{CoreCallsAreSchedules, CoreProgramsDoTheSame};
 ghost use Rattle.explored_core.specs.CoreSteps.{PlayedSchedulesAreOfCore};
 ghost use Rattle.explored_core.specs.CoreEnds.{CoreRunsEnd, LibraryRunsAreExplored};
+ghost use Rattle.explored_core.specs.CoreVerdicts.{CoreVerdictsHold};
 
 /// A program of lines whose processes make sleeps, wakeups, notes and drains, one after another,
 /// does what the program of the core does that has these lists of calls: step by step each process
@@ -23,4 +24,12 @@ pub fn core_calls_are_schedules()
 pub fn core_runs_end()
     ensures runs { LibraryRunsAreExplored }
     ensures ends { CoreRunsEnd }
+{}
+
+/// What is found of such a program is so of its schedules, in which who is asleep may look and find
+/// nothing any number of times: none deadlocks, and each can go on to an end; or the processes that
+/// are named make one that deadlocks, and in the order `Shortest` none of fewer moves does. None is
+/// caught. The states that are counted are the positions that its schedules come to.
+pub fn core_verdicts_hold()
+    ensures { CoreVerdictsHold }
 {}
