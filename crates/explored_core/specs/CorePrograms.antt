@@ -1,7 +1,7 @@
 -- Which programs of lines are of the core: each process makes sleeps, wakeups, notes and drains, one
 -- after another, whatever their answers are.
-use Rattle.std.specs.Prelude.{◌≡◌, ◌<◌, ◌==◌, ◌&&◌, ℕ, zero, suc, false, not, if◌then◌else◌}
-use Rattle.std.specs.Prelude.{Option, Some, None, List, [], ◌∷◌, option_map, length, slice_get}
+use Rattle.std.specs.Prelude.{◌≡◌, ◌<◌, ◌↔◌, ◌==◌, ◌&&◌, ℕ, zero, suc, false, not}
+use Rattle.std.specs.Prelude.{if◌then◌else◌, Option, Some, None, List, [], ◌∷◌, option_map, length, slice_get}
 use Rattle.std.specs.Prelude.{slice_index}
 use Rattle.schedules.specs.declared.call.Call.{Call as CoreCall}
 use Rattle.schedules.specs.declared.call.Call.TheVariants as calling
@@ -92,9 +92,8 @@ core_in program =
       calls = lists;
     }) (lists_from program.lines program.starts)
 
--- A program that is told so is of the core.
+-- It is told just of the programs that are of the core.
 abbrev pub CoreProgramsAreTold : Type 0
 CoreProgramsAreTold =
     (program : Program) (core : CoreProgram)
-    → core_in program ≡ Some core
-    → IsOfCore program core
+    → (core_in program ≡ Some core) ↔ IsOfCore program core
