@@ -7,3 +7,5 @@ pub mod FewerMovers
 pub mod RunLemmas
 pub mod EndLemmas
 pub mod VerdictLemmas
+mod WorkedCore
+mod WorkedLaws
