@@ -1,6 +1,7 @@
--- A machine some of whose movers never have a step, and the machine of the others: the same is found
--- of both.
-use Rattle.std.proofs.Common.{◌≡◌, ◌⊎◌, inl, inr, ◌≤◌, ◌<◌, ◌+◌, ◌&&◌, ◌||◌, ℕ, zero, suc, Bool, true}
+-- A machine some of whose movers never have a step, and that of the others: the same is found of
+-- both.
+use Rattle.std.proofs.Common.{◌≡◌, ◌⊎◌, inl, inr, ◌≤◌, ◌<◌, ◌+◌, ◌&&◌, ◌||◌, ℕ, zero, suc, Bool}
+use Rattle.std.proofs.Common.{true}
 use Rattle.std.proofs.Common.{false, not, leb, List, [], ◌∷◌, length, Contains, refl, sym, ◌∙◌, ap}
 use Rattle.std.proofs.Common.{subst, arith}
 use Rattle.std.specs.Prelude.{All, reverse}
@@ -19,7 +20,7 @@ use Rattle.searches.specs.Ends.{AlwaysCanEnd, ComesToCaught, GetsCaught, GoesOnT
 use Rattle.searches.specs.Ends.{NoneEnds, SomeEnds}
 use Rattle.searches.specs.Schedule.{AreReached, CanMove, ComesToStuck, GetsStuck, IsAlong, IsNear}
 use Rattle.searches.specs.Schedule.{IsReached, IsSchedule, LeadsInto, NeverStuck, NotStuckBefore}
-use Rattle.searches.specs.Schedule.{ReachesAlong, ReachesJust, ReachesNear, ReachesWithin}
+use Rattle.searches.specs.Schedule.{ReachesAlong, ReachesJust, ReachesWithin}
 use Rattle.searches.specs.Schedule.{position_of}
 use Rattle.searches.specs.Stuck.{goes_on, has_ended, is_stuck, some_below}
 use Rattle.searches.specs.System.{System}
@@ -345,7 +346,8 @@ module _ {Position : Type 0} (machine : System Position) (few : ℕ) where
 
     -- a search that was cut off there is cut off here
     module _ (IsThere IsHere : Position → Type 0)
-        (as_there : (at : Position) → IsReached machine at → IsHere at → IsThere at) (most : ℕ) where
+        (as_there : (at : Position) → IsReached machine at → IsHere at → IsThere at)
+        (most : ℕ) where
       layers_cut_off : LayersCutOff machine IsThere most → LayersCutOff fewer IsHere most
       layers_cut_off cut =
           record {

@@ -44,11 +44,11 @@ module _ (lines : List Line) where
 
   -- A line of this call stands there.
   pub record HasLine (place : ℕ) (made : CoreCall) : Type 0 where
-    -- the line
+    -- the line that is meant
     pub line : Line
-    -- which stands there
+    -- which stands at that place
     pub found : slice_get lines place ≡ Some line
-    -- and is of the call
+    -- and is a line of the call
     pub is : IsLineOf made line
 
   -- the line of each call stands where the calls before it lead
@@ -61,7 +61,8 @@ module _ (lines : List Line) where
       record {
         line = are.0;
         found = are.1;
-        is = subst (λ (c : CoreCall). IsLineOf c are.0) (let same : first ≡ made = cc in same) are.2;
+        is = subst (λ (c : CoreCall). IsLineOf c are.0)
+            (let same : first ≡ made = cc in same) are.2;
       }
   line_of_call place (first ∷ calls) (suc count) made are found =
       subst (λ (p : ℕ). HasLine p made) (sym (leads place count are.0 are.1))

@@ -1,5 +1,6 @@
 -- Lists that a function of the place makes, and what becomes of one place.
-use Rattle.std.proofs.Common.{◌≡◌, ◌≢◌, ◌⊎◌, inl, inr, ◌≤◌, ◌<◌, ◌+◌, ℕ, zero, suc, true, false, leb}
+use Rattle.std.proofs.Common.{◌≡◌, ◌≢◌, ◌⊎◌, inl, inr, ◌≤◌, ◌<◌, ◌+◌, ℕ, zero, suc, true, false}
+use Rattle.std.proofs.Common.{leb}
 use Rattle.std.proofs.Common.{eqb, Some, List, ◌∷◌, length, map, get_or, replicate, refl, sym}
 use Rattle.std.proofs.Common.{◌∙◌, ap, subst, arith}
 use Rattle.std.specs.List.{range_with_len}
@@ -17,6 +18,7 @@ abbrev pub below : {X : Type 0} → (ℕ → X) → ℕ → List X
 below f n = map f (range_with_len 0 n)
 
 module _ {X : Type 0} (f : ℕ → X) (n : ℕ) where
+  -- it has so many items
   pub long : length (below f n) ≡ n
   long = length-map-range_with_len f 0 n
 

@@ -1,5 +1,5 @@
 -- Schedules of the core, and those of the machine that is explored: each is one of the other.
-use Rattle.std.proofs.Common.{◌≡◌, ◌⊎◌, inl, inr, ◌≤◌, ◌<◌, ◌&&◌, ◌||◌, ℕ, zero, suc, Bool, true}
+use Rattle.std.proofs.Common.{◌≡◌, ◌⊎◌, inl, inr, ◌≤◌, ◌<◌, ◌&&◌, ℕ, Bool, true}
 use Rattle.std.proofs.Common.{false, not, leb, cond, Option, Some, List, [], ◌∷◌}
 use Rattle.std.proofs.Common.{refl, sym, ◌∙◌, ap, subst, arith}
 use Rattle.std.proofs.lemmas.Bool.Decides.{leb_tells}
@@ -28,7 +28,8 @@ use Rattle.calls.specs.Position.{Position, after_of, status_of}
 use Rattle.calls.specs.Program.{IsProgram, Program, procs_of}
 use Rattle.explored_core.specs.CorePrograms.{IsOfCore}
 use Rattle.explored_core.specs.CoreSteps.{CoreCallsAreSchedules, CoreProgramsDoTheSame, DoesTheSame}
-use Rattle.explored_core.specs.CoreSteps.{IsOfSchedule, IsPlayed, PlayedSchedulesAreOfCore, core_run}
+use Rattle.explored_core.specs.CoreSteps.{IsOfSchedule, IsPlayed, PlayedSchedulesAreOfCore}
+use Rattle.explored_core.specs.CoreSteps.{core_run}
 use Rattle.explored_core.specs.CoreSteps.{event_at, makers_of, moves_of, with_event, world_at}
 use Rattle.explored_core.specs.Spots.{spot_of}
 use Rattle.explored_core.proofs.FewerMovers.{some_few, some_same}
@@ -100,7 +101,8 @@ module _ (program : Program) (core : CoreProgram) (is : IsProgram program)
     -- the answer there is that here
     answer_same : (made : Event) → answer_to (world_at program spot) made ≡ answer_to at.world made
     answer_same made =
-        ap (λ (w : State). answer_to w made) (same.world past schedule) ∙ answer_to-bare at.world made
+        ap (λ (w : State). answer_to w made) (same.world past schedule)
+        ∙ answer_to-bare at.world made
 
     -- one event more, where a process makes it
     event_more : (pid : ℕ) (made : Event) (told : Answer) (here : Position) (run rest : List Entry)
@@ -204,6 +206,7 @@ module _ (program : Program) (core : CoreProgram) (is : IsProgram program)
           (sym (ap (λ (b : Bool). cond (not b) (entry ∷ moves_of past) (moves_of past)) goes))
           (step_played entry past (moves_of past) schedule goes so)
 
+  -- so each schedule is played
   pub played : (past : List Entry) → IsSchedule core past → IsPlayed program core past
   played past schedule = played_by past schedule (are_played past schedule)
 
@@ -277,7 +280,8 @@ module _ (program : Program) (core : CoreProgram) (is : IsProgram program)
           ⊎ ((leb (procs_of program) mover ≡ false) × (mover < procs_of program))
           → AreOfRun (mover ∷ past) (core_run program (mover ∷ past))
       by_mover (inl high) =
-          absurd (let ended = same.no_others (core_run program past) mover so.0 high.1 moves.there in
+          absurd (let ended = same.no_others (core_run program past)
+          mover so.0 high.1 moves.there in
           let ready = sym (ap (λ (p : Position). status_of program p mover) so.3) ∙ moves.ready in
           let both : status.Ended ≡ status.Ready = sym ended ∙ ready in cc)
       by_mover (inr low) = by_step low.1 (going low.1)
@@ -288,15 +292,17 @@ module _ (program : Program) (core : CoreProgram) (is : IsProgram program)
   are_of_run (mover ∷ past) schedule =
       step_of_run mover past schedule.1 (are_of_run past schedule.0)
 
+  -- so each that is played is a schedule
   pub of_schedule : (past : List ℕ) → movers.IsSchedule (system_of program) past
       → IsOfSchedule program core past
   of_schedule past schedule = of_run past (are_of_run past schedule)
 
--- so both are alike
+-- each schedule of the core is one of the other machine
 pub schedules_are_played : CoreCallsAreSchedules
 schedules_are_played program core past is of_core schedule =
     played program core is of_core past schedule
 
+-- and of the core are those of the other machine
 pub played_are_schedules : PlayedSchedulesAreOfCore
 played_are_schedules program core past is of_core schedule =
     of_schedule program core is of_core past schedule

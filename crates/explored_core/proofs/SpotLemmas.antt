@@ -1,5 +1,6 @@
 -- What a process can do in the machine that is explored, where a schedule of the core is here.
-use Rattle.std.proofs.Common.{◌≡◌, ◌⊎◌, inl, inr, ◌≤◌, ◌<◌, ◌+◌, ◌-◌, ◌&&◌, ◌||◌, ◌==◌, ℕ, zero, suc}
+use Rattle.std.proofs.Common.{◌≡◌, ◌⊎◌, inl, inr, ◌≤◌, ◌<◌, ◌+◌, ◌-◌, ◌&&◌, ◌||◌, ◌==◌, ℕ, zero}
+use Rattle.std.proofs.Common.{suc}
 use Rattle.std.proofs.Common.{Bool, true, false, nat_lt, if◌then◌else◌, Option, Some, None, List}
 use Rattle.std.proofs.Common.{[], length, map, get_or, replicate, refl, sym, ◌∙◌, ap, subst, arith}
 use Rattle.std.specs.List.{list_all, list_any, range_with_len}
@@ -23,7 +24,8 @@ use Rattle.sleep_core.proofs.CoreRuns.{get_or-replicate_same}
 use Rattle.searches.specs.declared.status.Status.TheVariants as status
 use Rattle.schedules.specs.declared.call.Call.{Call as CoreCall}
 use Rattle.schedules.specs.declared.call.Call.TheVariants as calling
-use Rattle.schedules.specs.Position.{Position as CorePosition, call_of, event_of, place_of, status_at}
+use Rattle.schedules.specs.Position.{Position as CorePosition, call_of, event_of, place_of}
+use Rattle.schedules.specs.Position.{status_at}
 use Rattle.schedules.specs.Position as scheduled
 use Rattle.schedules.specs.Program.{Program as CoreProgram, calls_of, event_in, proc}
 use Rattle.schedules.specs.Program as listed
@@ -36,7 +38,8 @@ use Rattle.calls.specs.declared.line.Line.{Line}
 use Rattle.calls.specs.declared.process.Process.{Process}
 use Rattle.calls.specs.declared.rendez.Rendez.{Rendez}
 use Rattle.calls.specs.Pipes.{empty_direction}
-use Rattle.calls.specs.Position.{Position, begins_round, can_end, ending_of, moves, opening_of, rests}
+use Rattle.calls.specs.Position.{Position, begins_round, can_end, ending_of, moves, opening_of}
+use Rattle.calls.specs.Position.{rests}
 use Rattle.calls.specs.Position.{starting, status_in, status_of, status_of_one, turning_at}
 use Rattle.calls.specs.Position.{turning_of_one, turns_or_ends}
 use Rattle.calls.specs.Position as explored
@@ -46,7 +49,8 @@ use Rattle.explored_core.specs.CorePrograms.{IsLineOf, IsOfCore, made_of}
 use Rattle.explored_core.specs.CoreSteps.{event_at, event_by, event_of_one, flags_of_one, phase_by}
 use Rattle.explored_core.specs.CoreSteps.{phase_in, phase_of_one, word_of, world_at}
 use Rattle.explored_core.specs.CoreSteps as steps
-use Rattle.explored_core.specs.Spots.{place_after, posted_in, process_at, process_with, rendez_at, spot_of}
+use Rattle.explored_core.specs.Spots.{place_after, posted_in, process_at, process_with, rendez_at}
+use Rattle.explored_core.specs.Spots.{spot_of}
 use Rattle.explored_core.specs.Spots.{standing_in}
 use Rattle.explored_core.proofs.LineLemmas.{HasLine, line_at, no_line, spot_place}
 use Rattle.explored_core.proofs.ListLemmas.{below, below_same, found_at, list_is, map_is}
@@ -60,7 +64,8 @@ module _ (s : State) (made : Event) (stage : Phase) (there : (pid_of made).0 < l
   pub answer_is : answer_to s made ≡ reply made stage (word_at s (cell_of made stage))
   answer_is =
       ap (λ (b : Bool). if b then answer_in s (phase_of s (pid_of made).0) made else answer.NoProc)
-      (let low : nat_lt (pid_of made).0 (length s.phases) ≡ true = grind (arith, nat_tests, there) in low)
+      (let low : nat_lt (pid_of made).0 (length s.phases) ≡ true
+      = grind (arith, nat_tests, there) in low)
       ∙ (ap (λ (st : Phase). answer_in s st made) is
       ∙ ap (λ (b : Bool). if b then reply made stage (word_at s (cell_of made stage))
       else answer.NoRendez) cell)
@@ -121,7 +126,8 @@ held_is sleeper r l =
     (grind (arith, nat_tests)) (grind (arith, nat_tests)) (omega arith)
   where
     by_tests : (none small : Bool) (n : ℕ) → none ≡ false → small ≡ false → n ≡ sleeper
-        → (if none then phase.Idle else if small then phase.Owing r l else phase.Holding (proc n) r l)
+        → (if none then phase.Idle
+        else if small then phase.Owing r l else phase.Holding (proc n) r l)
         ≡ phase.Holding (proc sleeper) r l
     by_tests none small n is_none is_small same =
         ap (λ (b : Bool). if b then phase.Idle
@@ -153,7 +159,8 @@ phase_is (phase.Holding p r l) calling.Drain fits = absurd cc
 -- whoever looks goes on where it sees a mark or notes
 look_same : (mark notes : Bool)
     → (if mark || notes then status.Ready else status.Parked)
-    ≡ (if is_parked (if mark then answer.Woken else (if notes then answer.Leaving else answer.Parked))
+    ≡ (if is_parked (if mark then answer.Woken
+    else (if notes then answer.Leaving else answer.Parked))
     then status.Parked else status.Ready)
 look_same true notes = refl
 look_same false true = refl
@@ -183,17 +190,18 @@ module _ (program : Program) (core : CoreProgram) (is : IsProgram program)
       → slice_get spot.processes pid ≡ Some (process_at program at pid)
   process_is pid low = found_at (process_at program at) (procs_of program) pid low
 
+  -- and each of its Rendez
   pub rendez_is : (r : ℕ) → r < program.rendez
       → slice_get spot.rendez r ≡ Some (rendez_at at.world r)
   rendez_is r low = found_at (rendez_at at.world) program.rendez r low
 
   -- A process that is to make a call, and its line.
   pub record IsCalling (pid : ℕ) : Type 0 where
-    -- the call
+    -- the call that is made
     pub made : CoreCall
     -- which is its next
     pub is_made : call_of core at pid ≡ Some made
-    -- and its line
+    -- and the line of it
     pub line : Line
     -- which stands where the process is
     pub found : slice_get program.lines (line_place pid) ≡ Some (plain made line)
@@ -213,7 +221,8 @@ module _ (program : Program) (core : CoreProgram) (is : IsProgram program)
             no_line program.lines (get_or program.starts pid 0) (calls_of core pid)
                 (place_of at pid) (of_core.lists pid low) none,
           )
-      by_call (Some made) found = inl (with_line (line_at program core is of_core pid (place_of at pid) made found))
+      by_call (Some made) found =
+          inl (with_line (line_at program core is of_core pid (place_of at pid) made found))
         where
           with_line : HasLine program.lines (line_place pid) made → IsCalling pid
           with_line there =
@@ -229,6 +238,7 @@ module _ (program : Program) (core : CoreProgram) (is : IsProgram program)
   abbrev stage_of : ℕ → Phase
   stage_of pid = phase_of at.world pid
 
+  -- each process has one event in both
   pub does : (pid : ℕ) → pid < procs_of program → event_at program spot pid ≡ event_of core at pid
   does pid low =
       ap (event_of_one program pid) (process_is pid low)
@@ -274,17 +284,20 @@ module _ (program : Program) (core : CoreProgram) (is : IsProgram program)
   with_rows phases flags posted levels =
       record { phases = phases; flags = flags; posted = posted; levels = levels; returned = [] }
 
+  -- the world there is the world here, without returned levels
   pub world_is : world_at program spot ≡ bare at.world
   world_is =
       ap (λ (l : List Phase). with_rows l (map flags_of_one spot.processes)
-      (map (λ (r : Rendez). word_of r.posted) spot.rendez) (map (λ (r : Rendez). r.level) spot.rendez))
+      (map (λ (r : Rendez). word_of r.posted) spot.rendez)
+      (map (λ (r : Rendez). r.level) spot.rendez))
       (map_is (phase_of_one program) (process_at program at) (procs_of program)
       ∙ (below_same (λ pid. phase_of_one program (process_at program at pid)) (phase_of at.world)
       (procs_of program) phase_here
       ∙ sym (list_is at.world.phases (procs_of program) phase.Idle
       (sized.phases ∙ sym of_core.procs))))
       ∙ (ap (λ (l : List ProcFlags). with_rows at.world.phases l
-      (map (λ (r : Rendez). word_of r.posted) spot.rendez) (map (λ (r : Rendez). r.level) spot.rendez))
+      (map (λ (r : Rendez). word_of r.posted) spot.rendez)
+      (map (λ (r : Rendez). r.level) spot.rendez))
       (map_is flags_of_one (process_at program at) (procs_of program)
       ∙ sym (list_is at.world.flags (procs_of program) no_flags
       (sized.flags ∙ sym of_core.procs)))
@@ -300,10 +313,12 @@ module _ (program : Program) (core : CoreProgram) (is : IsProgram program)
 
   -- ---- what it can do
 
+  -- each process has a phase
   pub has_phase : (pid : ℕ) → pid < procs_of program → pid < length at.world.phases
   has_phase pid low =
       let one = sized.phases in let two = of_core.procs in omega (arith, low, one, two)
 
+  -- and a word of flags
   pub has_flags : (pid : ℕ) → pid < procs_of program → nat_lt pid (length at.world.flags) ≡ true
   has_flags pid low =
       let one = sized.flags in let two = of_core.procs in grind (arith, nat_tests, low, one, two)
@@ -353,6 +368,7 @@ module _ (program : Program) (core : CoreProgram) (is : IsProgram program)
         (answer_is at.world (Look (proc pid)) phase.Awaiting (has_phase pid low) so
         (has_flags pid low)))
 
+  -- each can do the same in both
   pub can : (pid : ℕ) → pid < procs_of program
       → status_of program spot pid ≡ scheduled.status_of core at pid
   can pid low =
@@ -369,7 +385,8 @@ module _ (program : Program) (core : CoreProgram) (is : IsProgram program)
           ≡ scheduled.status_of core at pid
       by_line (inr none) =
           ap (explored.status_at program spot (process_at program at pid)) none.1
-          ∙ sym (ap (λ (next : Option CoreCall). status_at at (scheduled.event_at at pid next)) none.0)
+          ∙ sym (ap (λ (next : Option CoreCall).
+          status_at at (scheduled.event_at at pid next)) none.0)
       by_line (inl calls) =
           ap (explored.status_at program spot (process_at program at pid)) calls.found
           ∙ (can_in pid low calls.line calls.made (stage_of pid) refl
@@ -428,7 +445,8 @@ module _ (program : Program) (core : CoreProgram) (is : IsProgram program)
     where
       by_line : IsCalling pid
           ⊎ ((call_of core at pid ≡ None) × (slice_get program.lines (line_place pid) ≡ None))
-          → explored.begins_at (standing_in (stage_of pid)) (slice_get program.lines (line_place pid))
+          → explored.begins_at (standing_in (stage_of pid))
+          (slice_get program.lines (line_place pid))
           ≡ false
       by_line (inr none) = ap (explored.begins_at (standing_in (stage_of pid))) none.1
       by_line (inl calls) =
@@ -442,7 +460,8 @@ module _ (program : Program) (core : CoreProgram) (is : IsProgram program)
   none_of test f from (suc n) none =
       ap (λ (b : Bool). b || list_any test (map f (range_with_len (from + 1) n)))
       (none from (omega arith) (omega arith))
-      ∙ none_of test f (from + 1) n (λ i low high. none i (omega (arith, low)) (omega (arith, high)))
+      ∙ none_of test f (from + 1) n
+      (λ i low high. none i (omega (arith, low)) (omega (arith, high)))
 
   -- so the program does not end of itself
   no_end : ending_of program spot ≡ status.Ended
@@ -457,6 +476,7 @@ module _ (program : Program) (core : CoreProgram) (is : IsProgram program)
       by_both true any none = none
       by_both false any none = refl
 
+  -- no other mover has a step
   pub no_others : (mover : ℕ) → procs_of program ≤ mover
       → mover < procs_of program + procs_of program + 1
       → status_of program spot mover ≡ status.Ended

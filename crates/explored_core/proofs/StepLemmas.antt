@@ -1,6 +1,7 @@
 -- Where a step leads in the machine that is explored, and where it leads in a schedule of the core.
 use Rattle.std.proofs.Common.{◌≡◌, ◌≢◌, ◌⊎◌, inl, inr, ◌<◌, ◌+◌, ◌-◌, ◌==◌, ℕ, zero, suc, Bool}
-use Rattle.std.proofs.Common.{true, false, nat_lt, if◌then◌else◌, eqb, max, Option, Some, None, List}
+use Rattle.std.proofs.Common.{true, false, nat_lt, if◌then◌else◌, eqb, max, Option, Some, None}
+use Rattle.std.proofs.Common.{List}
 use Rattle.std.proofs.Common.{length, get_or, refl, sym, ◌∙◌, ap, subst, arith}
 use Rattle.std.specs.Prelude.{replicate, slice_get, slice_set}
 use Rattle.std.proofs.lemmas.Bool.Decides.{eqb_tells, nat_tests}
@@ -53,7 +54,8 @@ use Rattle.explored_core.specs.Spots.{place_after, posted_in, process_at, proces
 use Rattle.explored_core.specs.Spots.{spot_of, standing_in}
 use Rattle.explored_core.proofs.LineLemmas.{is_named, one_more}
 use Rattle.explored_core.proofs.ListLemmas.{becomes_one, below, found_at}
-use Rattle.explored_core.proofs.SpotLemmas.{IsCalling, calls_or_ended, held_is, line_place, not_held}
+use Rattle.explored_core.proofs.SpotLemmas.{IsCalling, calls_or_ended, held_is, line_place}
+use Rattle.explored_core.proofs.SpotLemmas.{not_held}
 use Rattle.explored_core.proofs.SpotLemmas.{plain, process_is, world_by}
 
 -- the number of a process that is posted
@@ -131,7 +133,8 @@ module _ (program : Program) (core : CoreProgram) (is : IsProgram program)
   has_level r low = let one = sized.levels in omega (arith, low, one)
 
   has_flags : (pid : ℕ) → pid < procs_of program → pid < length s.flags
-  has_flags pid low = let one = sized.flags in let two = of_core.procs in omega (arith, low, one, two)
+  has_flags pid low =
+      let one = sized.flags in let two = of_core.procs in omega (arith, low, one, two)
 
   -- what stands in a row is told
   told_low : (n m : ℕ) → n < m → nat_lt n m ≡ true
@@ -142,7 +145,8 @@ module _ (program : Program) (core : CoreProgram) (is : IsProgram program)
 
   -- the row of a Rendez
   row_is : (r : ℕ) → r < core.rendez → row r ≡ Some (rendez_at s r)
-  row_is r low = found_at (rendez_at s) program.rendez r (let one = of_core.rendez in omega (arith, low, one))
+  row_is r low =
+      found_at (rendez_at s) program.rendez r (let one = of_core.rendez in omega (arith, low, one))
 
   module _ (pid : ℕ) (low : pid < procs_of program) (line : Line)
       (next_place : place_after program.lines (get_or program.starts pid 0) (place_of at pid + 1)
@@ -306,7 +310,8 @@ module _ (program : Program) (core : CoreProgram) (is : IsProgram program)
         program.rendez r
         (λ low. ap (λ (p : Option ℕ). record { posted = p; level = level_of s r })
         (sym (ap posted_in (get_or-set_same s.posted r word 0 (has_row r there)) ∙ is_word)))
-        (λ other low differ. ap (λ (n : ℕ). record { posted = posted_in n; level = level_of s other })
+        (λ other low differ.
+        ap (λ (n : ℕ). record { posted = posted_in n; level = level_of s other })
         (sym (get_or-set_other s.posted r other word 0 differ)))
 
     -- a level is raised
@@ -474,7 +479,8 @@ module _ (program : Program) (core : CoreProgram) (is : IsProgram program)
           ∙ by_test (posted_of s r.0 == posted_as pid) (is_mine pid (posted_of s r.0)) refl
         where
           by_test : (mine : Bool)
-              → sleeps.is_sleeper pid (posted_in (posted_of s r.0)) ≡ (posted_of s r.0 == posted_as pid)
+              → sleeps.is_sleeper pid (posted_in (posted_of s r.0))
+              ≡ (posted_of s r.0 == posted_as pid)
               → (posted_of s r.0 == posted_as pid) ≡ mine
               → (if sleeps.is_sleeper pid (posted_in (posted_of s r.0))
               then explored.sleep_is (explored.rendez_is_now from r.0 (sleeps.posted_by None)) pid
@@ -533,7 +539,8 @@ module _ (program : Program) (core : CoreProgram) (is : IsProgram program)
               same_spot (with_phase s pid phase.Woken) (Look (proc pid))
               (becomes (sleeps.looked stage.Awaits None) from.processes pid) from.rendez
               (goes_to (with_phase s pid phase.Woken) phase.Woken (sleeps.looked stage.Awaits None)
-              (ap (λ (b : Bool). sleeps.at_stage (if b then stage.Woken else stage.Awaits) None here)
+              (ap (λ (b : Bool).
+              sleeps.at_stage (if b then stage.Woken else stage.Awaits) None here)
               is_marked) refl refl refl)
               refl (left true is_marked)
           by_mark false is_marked =
@@ -541,7 +548,8 @@ module _ (program : Program) (core : CoreProgram) (is : IsProgram program)
               (becomes (sleeps.looked stage.Awaits None) from.processes pid) from.rendez
               (goes_to (with_phase s pid phase.Awaiting) phase.Awaiting
               (sleeps.looked stage.Awaits None)
-              (ap (λ (b : Bool). sleeps.at_stage (if b then stage.Woken else stage.Awaits) None here)
+              (ap (λ (b : Bool).
+              sleeps.at_stage (if b then stage.Woken else stage.Awaits) None here)
               is_marked) refl refl refl)
               refl (left false is_marked)
 
@@ -570,7 +578,8 @@ module _ (program : Program) (core : CoreProgram) (is : IsProgram program)
               (becomes (sleeps.cleared sleeps_in None) from.processes pid) from.rendez
               (moves s (with_phase (with_flags s pid no_flags) pid phase.Idle)
               (sleeps.cleared sleeps_in None)
-              (one_way (has_notes (flags_of s pid).notes) (process_with line.next phase.Idle no_flags)
+              (one_way (has_notes (flags_of s pid).notes)
+              (process_with line.next phase.Idle no_flags)
               ∙ own_next (with_phase (with_flags s pid no_flags) pid phase.Idle) no_flags
               (phase_own phase.Idle) (get_or-set_same s.flags pid no_flags no_flags
               (has_flags pid low)))
@@ -639,14 +648,16 @@ module _ (program : Program) (core : CoreProgram) (is : IsProgram program)
           by_word (suc q) is_word =
               ap (explored.takes from pid wakes_in)
               (ap sleeps.posted_in (row_is r.0 there) ∙ ap posted_in is_word)
-              ∙ same_spot (world_told s (phase.Owing r l) (Take (proc pid)) (answer.Holding (proc q)))
+              ∙ same_spot
+              (world_told s (phase.Owing r l) (Take (proc pid)) (answer.Holding (proc q)))
               (Take (proc pid))
               (becomes (λ (process : Process). record process { standing = standing.Holds q })
               from.processes pid)
               (becomes (sleeps.posted_by None) from.rendez r.0)
               (goes_to (world_told s (phase.Owing r l) (Take (proc pid)) (answer.Holding (proc q)))
               (phase.Holding (proc q) r l)
-              (λ (process : Process). record process { standing = standing.Holds q }) refl refl refl refl)
+              (λ (process : Process). record process { standing = standing.Holds q })
+              refl refl refl refl)
               (word_changes r.0 nobody None there refl)
               (world_by s (Take (proc pid)) (phase.Owing r l) has_phase so
               (told_low r.0 (length s.posted) (has_row r.0 there)) (answer.Holding (proc q))
@@ -662,13 +673,16 @@ module _ (program : Program) (core : CoreProgram) (is : IsProgram program)
           → went_at program from pid wakes_in (standing.Holds sleeper.0)
           ≡ spot_of program (moved at pid (Mark (proc pid)))
       marks sleeper is_there so =
-          same_spot (world_told s (phase.Holding sleeper r l) (Mark (proc pid)) (answer.Marked sleeper))
+          same_spot
+          (world_told s (phase.Holding sleeper r l) (Mark (proc pid)) (answer.Marked sleeper))
           (Mark (proc pid))
-          (becomes (onto line.next) (becomes sleeps.marked from.processes sleeper.0) pid) from.rendez
+          (becomes (onto line.next) (becomes sleeps.marked from.processes sleeper.0) pid)
+          from.rendez
           (ap (λ (l : List Process). becomes (onto line.next) l pid)
           (flags_change sleeper.0 (record { wake = true; notes = (flags_of s sleeper.0).notes })
           sleeps.marked refl)
-          ∙ is_over (with_flags s sleeper.0 (record { wake = true; notes = (flags_of s sleeper.0).notes }))
+          ∙ is_over
+          (with_flags s sleeper.0 (record { wake = true; notes = (flags_of s sleeper.0).notes }))
           (world_told s (phase.Holding sleeper r l) (Mark (proc pid)) (answer.Marked sleeper))
           refl refl refl)
           refl

@@ -1,6 +1,7 @@
 -- A program that is told to be of the core is of the core.
 use Rattle.std.proofs.Common.{◌≡◌, ◌≢◌, ◌≤◌, ◌<◌, ◌==◌, ◌&&◌, ℕ, zero, suc, Bool, true, false, not}
-use Rattle.std.proofs.Common.{if◌then◌else◌, Option, Some, None, List, [], ◌∷◌, length, get_or, refl, sym}
+use Rattle.std.proofs.Common.{if◌then◌else◌, Option, Some, None, List, [], ◌∷◌, length, get_or}
+use Rattle.std.proofs.Common.{refl, sym}
 use Rattle.std.proofs.Common.{◌∙◌, ap, subst, arith}
 use Rattle.std.specs.Prelude.{option_map, slice_get}
 use Rattle.std.proofs.lemmas.Bool.Decides.{nat_tests}
@@ -13,7 +14,8 @@ use Rattle.calls.specs.declared.call.Call.TheVariants as call
 use Rattle.calls.specs.declared.line.Line.{Line}
 use Rattle.calls.specs.Lines.{next_of}
 use Rattle.calls.specs.Program.{Program}
-use Rattle.explored_core.specs.CorePrograms.{AreFrom, CoreProgramsAreTold, IsLineOf, IsOfCore, before}
+use Rattle.explored_core.specs.CorePrograms.{AreFrom, CoreProgramsAreTold, IsLineOf, IsOfCore}
+use Rattle.explored_core.specs.CorePrograms.{before}
 use Rattle.explored_core.specs.CorePrograms.{call_in, calls_at, calls_from, core_call, lists_from}
 use Rattle.explored_core.specs.CorePrograms.{core_in, made_of}
 use Rattle.explored_core.specs.Spots.{place_after}
@@ -53,13 +55,15 @@ line_is line made told = by_tests (line.other == line.next) line.is_served refl 
 -- What stands before what, where both are there.
 record HasBoth {A : Type 0} (first : Option A) (rest : Option (List A)) (all : List A)
     : Type 0 where
-  -- the first
+  -- the first item of both
   pub one : A
-  -- and the others
+  -- and all others after it
   pub others : List A
-  -- which are these
+  -- it is what stands first
   pub is_first : first ≡ Some one
+  -- and these are the rest
   pub are_rest : rest ≡ Some others
+  -- so these are all
   pub are_all : one ∷ others ≡ all
 
 has_both : {A : Type 0} (first : Option A) (rest : Option (List A)) (all : List A)
@@ -86,7 +90,8 @@ module _ (lines : List Line) where
       by_line None none so =
           subst (AreFrom lines place) (same_Some [] calls so) none
       by_line (Some line) found so =
-          absurd (let both = has_both (call_in line) None calls so in let none = both.are_rest in cc)
+          absurd (let both = has_both (call_in line) None calls so in
+          let none = both.are_rest in cc)
   are_from (suc most) place calls told =
       by_line (slice_get lines place) refl told (λ next rest. are_from most next rest)
     where
@@ -121,7 +126,8 @@ module _ (lines : List Line) where
       × ((pid : ℕ) → pid < 0 → AreFrom lines (get_or [] pid 0) (get_or all pid [])))
       (same_Some [] lists told) (refl, λ pid low. absurd (omega (arith, low)))
   lists_are (start ∷ starts) lists told =
-      with_both (has_both (calls_from lines (length lines) start) (lists_from lines starts) lists told)
+      with_both
+      (has_both (calls_from lines (length lines) start) (lists_from lines starts) lists told)
       (λ rest so. lists_are starts rest so)
     where
       with_both : HasBoth (calls_from lines (length lines) start) (lists_from lines starts) lists
@@ -139,7 +145,8 @@ module _ (lines : List Line) where
           (ap suc (after both.others both.are_rest).0, by_pid)
         where
           by_pid : (pid : ℕ) → pid < length (start ∷ starts)
-              → AreFrom lines (get_or (start ∷ starts) pid 0) (get_or (both.one ∷ both.others) pid [])
+              → AreFrom lines (get_or (start ∷ starts) pid 0)
+              (get_or (both.one ∷ both.others) pid [])
           by_pid zero low = are_from (length lines) start both.one both.is_first
           by_pid (suc pid) low = (after both.others both.are_rest).1 pid (omega (arith, low))
 
@@ -182,7 +189,8 @@ fit_in (suc many) (suc count) of low apart =
 
     last_is : (i : ℕ) → i < count → of i ≡ of count → ⊥
     last_is i there same =
-        let one = apart i count (omega (arith, there)) (omega arith) same in omega (arith, there, one)
+        let one = apart i count (omega (arith, there)) (omega arith) same in
+        omega (arith, there, one)
 
     other_low : (i : ℕ) → i < count → other i < many
     other_low i there = by_test (of i == many) refl
@@ -225,7 +233,8 @@ as_few lines place calls are =
     (λ i j there also same. one_place lines place calls i j are (omega (arith, there))
     (omega (arith, also)) same)
   where
-    stands : (count : ℕ) → HasLine lines (place_after lines place count) (get_or calls count calling.Drain)
+    stands : (count : ℕ) → HasLine lines (place_after lines place count)
+        (get_or calls count calling.Drain)
         → place_after lines place count < length lines
     stands count has = slice_get_within lines (place_after lines place count) has.line has.found
 
@@ -233,7 +242,8 @@ as_few lines place calls are =
 line_told : (line : Line) (made : CoreCall) → IsLineOf made line → call_in line ≡ Some made
 line_told line made is =
     ap (λ (b : Bool). if b && not line.is_served then core_call line.call else None)
-    (let same = is.goes_on in let on : (line.other == line.next) ≡ true = grind (arith, nat_tests, same) in on)
+    (let same = is.goes_on in
+    let on : (line.other == line.next) ≡ true = grind (arith, nat_tests, same) in on)
     ∙ (ap (λ (b : Bool). if true && not b then core_call line.call else None) is.no_head
     ∙ (ap core_call is.makes ∙ call_told made))
   where
@@ -252,7 +262,8 @@ module _ (lines : List Line) where
   from_told (suc most) place [] are few =
       ap (calls_at (calls_from lines most (next_of (slice_get lines place) place))) are
   from_told (suc most) place (made ∷ calls) are few =
-      ap (λ (found : Option Line). calls_at (calls_from lines most (next_of found place)) found) are.1
+      ap (λ (found : Option Line). calls_at (calls_from lines most (next_of found place)) found)
+      are.1
       ∙ (ap (λ (rest : Option (List CoreCall)). before (call_in are.0) rest)
       (from_told most are.0.next calls are.3 (omega (arith, few)))
       ∙ ap (λ (first : Option CoreCall). before first (Some calls)) (line_told are.0 made are.2))
@@ -270,7 +281,8 @@ module _ (lines : List Line) where
       (from_told (length lines) start list (are 0 (omega arith))
       (as_few lines start list (are 0 (omega arith))))
       ∙ ap (λ (rest : Option (List (List CoreCall))). before (Some list) rest)
-      (lists_told starts lists (omega (arith, many)) (λ pid low. are (suc pid) (omega (arith, low))))
+      (lists_told starts lists (omega (arith, many))
+      (λ pid low. are (suc pid) (omega (arith, low))))
 
 told_of : (program : Program) (core : CoreProgram) → IsOfCore program core
     → core_in program ≡ Some core

@@ -1,11 +1,10 @@
 -- A program of the core is the image of its machine, but for movers that never have a step.
-use Rattle.std.proofs.Common.{◌≡◌, ◌≤◌, ◌<◌, ◌+◌, ℕ, Option, Some, None, List, [], length, get_or, map}
+use Rattle.std.proofs.Common.{◌≡◌, ◌<◌, ℕ, List, get_or}
 use Rattle.std.proofs.Common.{refl, sym, ◌∙◌, ap, subst, arith}
 use Rattle.std.specs.Prelude.{slice_get}
 use Rattle.std.proofs.lemmas.List.{ext_get_or}
 use Rattle.std.proofs.lemmas.Option.{same_Some}
 use Rattle.sleep_core.specs.State.{State}
-use Rattle.searches.specs.declared.status.Status.TheVariants as status
 use Rattle.searches.specs.Images.{IsImage}
 use Rattle.searches.specs.Schedule as movers
 use Rattle.searches.specs.System.{System}
@@ -13,8 +12,7 @@ use Rattle.searches.proofs.ImageLemmas.{verdicts_are_one}
 use Rattle.schedules.specs.Machine as scheduled
 use Rattle.schedules.specs.Position.{Position as CorePosition, place_of}
 use Rattle.schedules.specs.Program.{Program as CoreProgram, calls_of, top_of}
-use Rattle.schedules.specs.Program as listed
-use Rattle.schedules.specs.Schedule.{IsReached, bare}
+use Rattle.schedules.specs.Schedule.{bare}
 use Rattle.schedules.proofs.MoverLemmas.{reached_as}
 use Rattle.schedules.proofs.ReachedLemmas.{of_calls_reached, sized_reached}
 use Rattle.schedules.proofs.TopLemmas.{top_is}
@@ -27,7 +25,7 @@ use Rattle.calls.specs.Program.{IsProgram, Program, procs_of}
 use Rattle.explored_core.specs.CorePrograms.{IsOfCore}
 use Rattle.explored_core.specs.CoreSteps.{IsOfSchedule, core_run, world_at}
 use Rattle.explored_core.specs.CoreVerdicts.{CoreVerdictsHold}
-use Rattle.explored_core.specs.Spots.{place_after, process_at, spot_of}
+use Rattle.explored_core.specs.Spots.{process_at, spot_of}
 use Rattle.explored_core.proofs.FewerMovers.{OthersRest, fewer, holds_of_fewer}
 use Rattle.explored_core.proofs.LineLemmas.{one_place}
 use Rattle.explored_core.proofs.ListLemmas.{found_at}

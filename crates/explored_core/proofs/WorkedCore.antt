@@ -1,6 +1,6 @@
--- Programs of the core as programs of lines, one example for each row. Each line follows by computing.
-use Rattle.std.proofs.Common.{◌≡◌, ◌<◌, ℕ, zero, suc, true, false, Option, Some, None, List, [], ◌∷◌}
-use Rattle.std.proofs.Common.{map, refl, ap, arith}
+-- Programs of the core as programs of lines, one example for each row. Most follow by computing.
+use Rattle.std.proofs.Common.{◌≡◌, ◌<◌, ℕ, zero, suc, true, false, Some, None, List, [], ◌∷◌}
+use Rattle.std.proofs.Common.{map, refl, arith}
 use Rattle.std.specs.Prelude.{slice_get, slice_index}
 use Rattle.sync_base.specs.declared.mode.Mode.TheVariants as mode
 use Rattle.sync_base.specs.declared.note.Note.TheVariants.{Alarm}
@@ -11,7 +11,6 @@ use Rattle.sleep_core.specs.declared.answer.Answer.TheVariants as answer
 use Rattle.sleep_core.specs.declared.event.Event.{Event}
 use Rattle.sleep_core.specs.declared.event.Event.TheVariants as event
 use Rattle.sleep_core.specs.declared.phase.Phase.TheVariants as phase
-use Rattle.sleep_core.specs.declared.phase.ProcFlags.{ProcFlags}
 use Rattle.sleep_core.specs.Runs.{Entry}
 use Rattle.sleep_core.specs.State.{no_flags, opening}
 use Rattle.searches.specs.Schedule as movers
@@ -28,7 +27,6 @@ use Rattle.calls.specs.declared.process.Process.{Process}
 use Rattle.calls.specs.declared.process.Standing.{Standing}
 use Rattle.calls.specs.declared.process.Standing.TheVariants as standing
 use Rattle.calls.specs.declared.process.Timer.TheVariants as timer
-use Rattle.calls.specs.declared.rendez.Rendez.{Rendez}
 use Rattle.calls.specs.declared.rendez.Stage.TheVariants as stage
 use Rattle.calls.specs.Machine.{system_of}
 use Rattle.calls.specs.Pipes.{empty_direction}
@@ -37,7 +35,8 @@ use Rattle.calls.specs.Program.{Program}
 use Rattle.explored_core.specs.CorePrograms.{AreFrom, IsLineOf, IsOfCore, call_in, calls_from}
 use Rattle.explored_core.specs.CorePrograms.{core_call, core_in, lists_from, made_of}
 use Rattle.explored_core.specs.CoreSteps.{core_run, event_at, event_in, first_event, makers_of}
-use Rattle.explored_core.specs.CoreSteps.{moves_of, named, phase_in, sleep_event, sleep_phase, world_at}
+use Rattle.explored_core.specs.CoreSteps.{moves_of, named, phase_in, sleep_event, sleep_phase}
+use Rattle.explored_core.specs.CoreSteps.{world_at}
 use Rattle.explored_core.specs.Spots.{place_after, posted_in, spot_of, standing_in}
 
 -- a place without a line, where all calls are over
@@ -271,6 +270,10 @@ process place stands notes =
       is_marked = false;
     }
 
+-- one that is asleep, and has its mark
+abbrev woken : Process
+woken = record (process 0 (standing.Sleeps stage.Asleep None) no_notes) { is_marked = true }
+
 -- A position of the core: the first is asleep and has a mark, the second holds it, the third has
 -- made its call, and the fourth has notes.
 abbrev position : CorePosition
@@ -290,7 +293,7 @@ position =
 
 its_spot : spot_of waking position
     ≡ record {
-      processes = record (process 0 (standing.Sleeps stage.Asleep None) no_notes) { is_marked = true }
+      processes = woken
           ∷ process 2 (standing.Holds 0) no_notes
           ∷ process over standing.Begins no_notes
           ∷ process 0 standing.Begins (only Alarm)
@@ -316,7 +319,8 @@ its_world = refl
 -- ---- the event of each step
 
 first_events : map (first_event 6)
-    (call.Sleep 0 2 None ∷ call.Wakeup 0 3 ∷ call.Note 4 (only Alarm) ∷ call.Drain ∷ call.Choose ∷ [])
+    (call.Sleep 0 2 None ∷ call.Wakeup 0 3 ∷ call.Note 4 (only Alarm)
+    ∷ call.Drain ∷ call.Choose ∷ [])
     ≡ Some (event.Post (proc 6) (named 0) 2) ∷ Some (event.Raise (proc 6) (named 0) 3)
     ∷ Some (event.Note (proc 4) (only Alarm)) ∷ Some (event.Drain (proc 6)) ∷ None ∷ []
 first_events = refl

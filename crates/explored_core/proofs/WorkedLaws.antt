@@ -1,6 +1,6 @@
 -- What the laws say of a program of the core, one example for each clause of them.
-use Rattle.std.proofs.Common.{◌≡◌, ◌≤◌, ◌<◌, ℕ, true, false, Option, Some, None, List, [], ◌∷◌, length}
-use Rattle.std.proofs.Common.{refl, ap, arith}
+use Rattle.std.proofs.Common.{◌≡◌, ◌≤◌, ◌<◌, ℕ, false, Option, Some, None, List, [], ◌∷◌}
+use Rattle.std.proofs.Common.{refl, ap}
 use Rattle.rendez_words.specs.declared.words.Words.{Words}
 use Rattle.searches.specs.declared.order.Order.TheVariants as order
 use Rattle.searches.specs.declared.status.Status.TheVariants as status
@@ -12,7 +12,7 @@ use Rattle.sleep_core.specs.declared.answer.Answer.{Answer}
 use Rattle.sleep_core.specs.declared.answer.Answer.TheVariants as answer
 use Rattle.sleep_core.specs.declared.event.Event.{Event}
 use Rattle.sleep_core.specs.declared.event.Event.TheVariants as event
-use Rattle.sleep_core.specs.Runs.{Entry, kept, world_of}
+use Rattle.sleep_core.specs.Runs.{Entry, world_of}
 use Rattle.sleep_core.specs.State.{bare}
 use Rattle.schedules.specs.declared.call.Call.TheVariants as calling
 use Rattle.schedules.specs.LibraryRuns.{IsOfLibrary, NoRunDeadlocks}
@@ -23,7 +23,6 @@ use Rattle.schedules.specs.Walks.{IsKernelOf}
 use Rattle.calls.specs.declared.call.Call.{Call}
 use Rattle.calls.specs.declared.call.Call.TheVariants as call
 use Rattle.calls.specs.declared.line.Line.{Line}
-use Rattle.calls.specs.declared.rendez.Rendez.{Rendez}
 use Rattle.calls.specs.Machine.{system_of}
 use Rattle.calls.specs.Position.{Position, after_of, opening_of, status_of}
 use Rattle.calls.specs.Program.{IsProgram, Program}
@@ -110,7 +109,8 @@ module _ (of : IsOfCore pair lists) (schedule : IsSchedule lists looked) where
         → (after_of pair asleep 1).rendez
         ≡ record { posted = Some 0; level = 3 } ∷ []
     the_other_raises low =
-        ap (λ (p : Position). p.rendez) ((law pair lists is_program of).leaves looked 1 schedule low)
+        ap (λ (p : Position). p.rendez)
+        ((law pair lists is_program of).leaves looked 1 schedule low)
 
     nobody_turns : 2 ≤ 2 → 2 < 5 → status_of pair asleep 2 ≡ status.Ended
     nobody_turns high low = (law pair lists is_program of).no_others looked 2 schedule high low

@@ -13,8 +13,8 @@ use Rattle.explored_core.specs.CorePrograms.{IsOfCore}
 use Rattle.explored_core.specs.CoreSteps.{core_run, makers_of, world_at}
 
 -- Where those move who made the steps that are kept of a run, the machine makes just these steps,
--- with these events and answers. Each could move, and the machine comes to the world of the run, but
--- for returned levels.
+-- with these events and answers. Each could move, and it comes to the world of the run, but for
+-- returned levels.
 pub record IsExplored (program : Program) (core : CoreProgram) (past : List Entry) : Type 0 where
   pub schedule : movers.IsSchedule (system_of program) (makers_of (kept past))
   pub run : core_run program (makers_of (kept past)) ≡ kept past

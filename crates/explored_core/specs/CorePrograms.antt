@@ -1,7 +1,8 @@
--- Which programs of lines are of the core: each process makes sleeps, wakeups, notes and drains, one
--- after another, whatever their answers are.
+-- Which programs of lines are of the core: each process makes sleeps, wakeups, notes and drains, a
+-- list of them, whatever their answers are.
 use Rattle.std.specs.Prelude.{◌≡◌, ◌<◌, ◌↔◌, ◌==◌, ◌&&◌, ℕ, zero, suc, false, not}
-use Rattle.std.specs.Prelude.{if◌then◌else◌, Option, Some, None, List, [], ◌∷◌, option_map, length, slice_get}
+use Rattle.std.specs.Prelude.{if◌then◌else◌, Option, Some, None, List, [], ◌∷◌, option_map, length}
+use Rattle.std.specs.Prelude.{slice_get}
 use Rattle.std.specs.Prelude.{slice_index}
 use Rattle.schedules.specs.declared.call.Call.{Call as CoreCall}
 use Rattle.schedules.specs.declared.call.Call.TheVariants as calling
@@ -51,7 +52,8 @@ pub record IsOfCore (program : Program) (core : CoreProgram) : Type 0 where
 
 -- the call of the core that a call is, if it is one: a sleep with a deadline is none
 abbrev pub core_call : Call → Option CoreCall
-core_call (call.Sleep rendez threshold None) = Some (calling.Sleep (record { 0 = rendez }) threshold)
+core_call (call.Sleep rendez threshold None) =
+    Some (calling.Sleep (record { 0 = rendez }) threshold)
 core_call (call.Wakeup rendez level) = Some (calling.Wakeup (record { 0 = rendez }) level)
 core_call (call.Note pid notes) = Some (calling.Note (proc pid) notes)
 core_call call.Drain = Some calling.Drain

@@ -58,8 +58,8 @@ sleep_event pid made stage.Awaits = Some (Look (proc pid))
 sleep_event pid made stage.Woken = Some (Clear (proc pid))
 sleep_event pid made stage.Out = Some (Clear (proc pid))
 
--- After "Process Sleep and Synchronization on a Shared-Memory Multiprocessor" (1991): the event of a
--- process whose call stands so, if its next step is one of the core
+-- After "Process Sleep and Synchronization on a Shared-Memory Multiprocessor" (1991): the event of
+-- a process whose call stands so, if its next step is one of the core
 abbrev pub event_in : ℕ → Call → Standing → Option Event
 event_in pid made standing.Begins = first_event pid made
 event_in pid made (standing.Sleeps next outcome) = sleep_event pid made next

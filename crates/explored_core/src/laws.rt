@@ -6,11 +6,12 @@ ghost use Rattle.explored_core.specs.CoreSteps.{PlayedSchedulesAreOfCore};
 ghost use Rattle.explored_core.specs.CoreEnds.{CoreRunsEnd, LibraryRunsAreExplored};
 ghost use Rattle.explored_core.specs.CoreVerdicts.{CoreVerdictsHold};
 
-/// A program of lines whose processes make sleeps, wakeups, notes and drains, one after another,
-/// does what the program of the core does that has these lists of calls: step by step each process
-/// makes the same event there, with the same answer, and it leads to the same position. So each
-/// schedule of the core, but for looks that find nothing, is one of the machine that is explored,
-/// and each of that machine's is one of the core; and where the one is stuck the other is.
+/// A program of lines whose processes make lists of sleeps, wakeups, notes and drains does what the
+/// program of the core does that has these lists: step by step each process has the same event in
+/// both, can make it or not, and comes to the same position. So each schedule of the core, but for
+/// looks that find nothing, is one of the explorer's machine, and each of that machine's is one of
+/// the core, with the same events and answers. Where the one is stuck the other is. It is told just
+/// of these programs that they are of the core.
 pub fn core_calls_are_schedules()
     ensures told { CoreProgramsAreTold }
     ensures steps { CoreProgramsDoTheSame }
@@ -19,8 +20,8 @@ pub fn core_calls_are_schedules()
 {}
 
 /// Each run in which processes make the library's calls of their lists, as far as it has come, is
-/// one of the machine that is explored, not counting steps that change nothing: with the same events
-/// and answers, to the same world. So if that machine is never stuck, no such run deadlocks.
+/// one of the explorer's machine, not counting steps that change nothing: with the same events and
+/// answers, to the same world. So if that machine is never stuck, no such run deadlocks.
 pub fn core_runs_end()
     ensures runs { LibraryRunsAreExplored }
     ensures ends { CoreRunsEnd }
