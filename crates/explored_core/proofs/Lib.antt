@@ -1,6 +1,7 @@
 pub mod ListLemmas
 pub mod LineLemmas
 pub mod ToldLemmas
+pub mod LayoutLemmas
 pub mod SpotLemmas
 pub mod StepLemmas
 pub mod FewerMovers

@@ -32,6 +32,7 @@ use Rattle.calls.specs.Machine.{system_of}
 use Rattle.calls.specs.Pipes.{empty_direction}
 use Rattle.calls.specs.Position.{Position}
 use Rattle.calls.specs.Program.{Program}
+use Rattle.explored_core.specs.CoreLines.{lines_of}
 use Rattle.explored_core.specs.CorePrograms.{AreFrom, IsLineOf, IsOfCore, call_in, calls_from}
 use Rattle.explored_core.specs.CorePrograms.{core_call, core_in, lists_from, made_of}
 use Rattle.explored_core.specs.CoreSteps.{core_run, event_at, event_in, first_event, makers_of}
@@ -234,6 +235,43 @@ no_fewer_rendez of = let many = of.rendez in omega (arith, many)
 
 no_other_calls : ¬ IsOfCore still (record { rendez = 2; calls = (calling.Drain ∷ []) ∷ [] })
 no_other_calls of = let found = (of.lists 0 (omega arith)).1 in cc
+
+-- ---- the lines of a program of the core
+
+-- one list after another, and a process without calls has ended where it begins
+abbrev three : CoreProgram
+three =
+    record {
+      rendez = 1;
+      calls = sleeping ∷ [] ∷ (calling.Wakeup (named 0) 3 ∷ []) ∷ [];
+    }
+
+abbrev only_to : Call → ℕ → Line
+only_to made next =
+    record {
+      call = made;
+      next = next;
+      late = next;
+      other = next;
+      closed = next;
+      is_served = false;
+    }
+
+their_lines : lines_of three
+    ≡ record {
+      lines = only_to (call.Sleep 0 2 None) 1
+          ∷ only_to call.Drain 3
+          ∷ only_to (call.Wakeup 0 3) 3
+          ∷ [];
+      starts = 0 ∷ 3 ∷ 2 ∷ [];
+      values = [];
+      pipes = [];
+      rendez = 1;
+    }
+their_lines = refl
+
+they_are_told_again : core_in (lines_of three) ≡ Some three
+they_are_told_again = refl
 
 -- ---- where a process is
 

@@ -27,6 +27,7 @@ use Rattle.calls.specs.Machine.{system_of}
 use Rattle.calls.specs.Position.{Position, after_of, opening_of, status_of}
 use Rattle.calls.specs.Program.{IsProgram, Program}
 use Rattle.explored_core.specs.CoreEnds.{CoreRunsEnd, IsExplored, LibraryRunsAreExplored}
+use Rattle.explored_core.specs.CoreLines.{CoreProgramsHaveLines, lines_of}
 use Rattle.explored_core.specs.CorePrograms.{CoreProgramsAreTold, IsOfCore, core_in}
 use Rattle.explored_core.specs.CoreSteps.{CoreCallsAreSchedules, CoreProgramsDoTheSame, core_run}
 use Rattle.explored_core.specs.CoreSteps.{PlayedSchedulesAreOfCore, event_at, makers_of, moves_of}
@@ -89,6 +90,9 @@ told_so law = (law pair lists).0 refl
 
 told_again : CoreProgramsAreTold → IsOfCore pair lists → core_in pair ≡ Some lists
 told_again law of = (law pair lists).1 of
+
+it_has_lines : CoreProgramsHaveLines → IsOfCore (lines_of lists) lists
+it_has_lines law = law lists
 
 -- where it is asleep
 abbrev asleep : Position

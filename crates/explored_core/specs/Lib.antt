@@ -1,4 +1,5 @@
 pub mod CorePrograms
+pub mod CoreLines
 pub mod Spots
 pub mod CoreSteps
 pub mod CoreEnds

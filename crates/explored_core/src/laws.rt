@@ -1,5 +1,6 @@
 //! What the explorer's machine says of sleeps, wakeups and notes. Each law is a function that does
 //! nothing: its contract is the law.
+ghost use Rattle.explored_core.specs.CoreLines.{CoreProgramsHaveLines};
 ghost use Rattle.explored_core.specs.CorePrograms.{CoreProgramsAreTold};
 ghost use Rattle.explored_core.specs.CoreSteps.{CoreCallsAreSchedules, CoreProgramsDoTheSame};
 ghost use Rattle.explored_core.specs.CoreSteps.{PlayedSchedulesAreOfCore};
@@ -11,9 +12,10 @@ ghost use Rattle.explored_core.specs.CoreVerdicts.{CoreVerdictsHold};
 /// both, can make it or not, and comes to the same position. So each schedule of the core, but for
 /// looks that find nothing, is one of the explorer's machine, and each of that machine's is one of
 /// the core, with the same events and answers. Where the one is stuck the other is. It is told just
-/// of these programs that they are of the core.
+/// of these programs that they are of the core, and each of the core has lines.
 pub fn core_calls_are_schedules()
     ensures told { CoreProgramsAreTold }
+    ensures lines { CoreProgramsHaveLines }
     ensures steps { CoreProgramsDoTheSame }
     ensures schedules { CoreCallsAreSchedules }
     ensures back { PlayedSchedulesAreOfCore }
