@@ -18,7 +18,7 @@ line_to made next =
       is_served = false;
     }
 
--- where a process begins whose calls stand from this place on, if it has any, or else are over there
+-- where a process begins whose calls stand from this place on: where all are over, if it has none
 abbrev pub start_of : ℕ → ℕ → List CoreCall → ℕ
 start_of place over [] = over
 start_of place over calls = place
