@@ -22,7 +22,9 @@ use Rattle.schedules.specs.Schedule.{position_of}
 use Rattle.calls.specs.declared.call.Call.{Call}
 use Rattle.calls.specs.declared.call.Call.TheVariants as call
 use Rattle.calls.specs.declared.course.Course.TheVariants as course
+use Rattle.calls.specs.declared.ending.Ending.TheVariants as ending
 use Rattle.calls.specs.declared.line.Line.{Line}
+use Rattle.calls.specs.declared.process.Outcome.{Outcome}
 use Rattle.calls.specs.declared.process.Process.{Process}
 use Rattle.calls.specs.declared.process.Standing.{Standing}
 use Rattle.calls.specs.declared.process.Standing.TheVariants as standing
@@ -356,20 +358,35 @@ its_world = refl
 
 -- ---- the event of each step
 
+-- how a call ends that waits for the note of a tick
+abbrev outcome : Outcome
+outcome = record { ending = ending.Interrupted; notes = no_notes }
+
 first_events : map (first_event 6)
-    (call.Sleep 0 2 None ∷ call.Wakeup 0 3 ∷ call.Note 4 (only Alarm)
+    (call.Sleep 0 2 None ∷ call.Sleep 0 2 (Some 5) ∷ call.Wakeup 0 3 ∷ call.Note 4 (only Alarm)
     ∷ call.Drain ∷ call.Choose ∷ [])
-    ≡ Some (event.Post (proc 6) (named 0) 2) ∷ Some (event.Raise (proc 6) (named 0) 3)
+    ≡ Some (event.Post (proc 6) (named 0) 2) ∷ None ∷ Some (event.Raise (proc 6) (named 0) 3)
     ∷ Some (event.Note (proc 4) (only Alarm)) ∷ Some (event.Drain (proc 6)) ∷ None ∷ []
 first_events = refl
 
-sleep_events : map (sleep_event 6 (call.Sleep 0 2 None))
+sleep_events : map (sleep_event 6 (call.Sleep 4 2 None) 7)
     (stage.Posts ∷ stage.Tests ∷ stage.Asleep ∷ stage.Leaves ∷ stage.Awaits ∷ stage.Woken
     ∷ stage.Out ∷ [])
-    ≡ Some (event.Post (proc 6) (named 0) 2) ∷ Some (event.Test (proc 6))
-    ∷ Some (event.Look (proc 6)) ∷ Some (event.Withdraw (proc 6)) ∷ Some (event.Look (proc 6))
-    ∷ Some (event.Clear (proc 6)) ∷ Some (event.Clear (proc 6)) ∷ []
+    ≡ event.Post (proc 6) (named 4) 7 ∷ event.Test (proc 6) ∷ event.Look (proc 6)
+    ∷ event.Withdraw (proc 6) ∷ event.Look (proc 6) ∷ event.Clear (proc 6) ∷ event.Clear (proc 6)
+    ∷ []
 sleep_events = refl
+
+-- a sleep for itself, and one for the note of a tick, above which the greatest level is alone
+thresholds : map (event_in 6 (call.Sleep 4 2 (Some 5)))
+    (standing.Sleeps stage.Posts None ∷ standing.Sleeps stage.Posts (Some outcome)
+    ∷ standing.Drains outcome ∷ standing.PutsBack (only Alarm) ∷ [])
+    ≡ Some (event.Post (proc 6) (named 4) 2)
+    ∷ Some (event.Post (proc 6) (named 4) 18446744073709551614)
+    ∷ Some (event.Drain (proc 6))
+    ∷ Some (event.Note (proc 6) (only Alarm))
+    ∷ []
+thresholds = refl
 
 wakeup_events : map (event_in 6 (call.Wakeup 0 3))
     (standing.Begins ∷ standing.Owes ∷ standing.Holds 4 ∷ standing.Served ∷ [])
@@ -377,12 +394,18 @@ wakeup_events : map (event_in 6 (call.Wakeup 0 3))
     ∷ Some (event.Mark (proc 6)) ∷ None ∷ []
 wakeup_events = refl
 
-sleep_phases : map (sleep_phase (call.Sleep 4 2 None))
+sleep_phases : map (sleep_phase (call.Sleep 4 2 None) 7)
     (stage.Posts ∷ stage.Tests ∷ stage.Asleep ∷ stage.Leaves ∷ stage.Awaits ∷ stage.Woken
     ∷ stage.Out ∷ [])
-    ≡ phase.Idle ∷ phase.Posted (named 4) 2 ∷ phase.Asleep (named 4) 2 ∷ phase.Leaving (named 4)
+    ≡ phase.Idle ∷ phase.Posted (named 4) 7 ∷ phase.Asleep (named 4) 7 ∷ phase.Leaving (named 4)
     ∷ phase.Awaiting ∷ phase.Woken ∷ phase.Out ∷ []
 sleep_phases = refl
+
+-- asleep for itself, and for the note of a tick
+asleep_phases : map (phase_in (call.Sleep 4 2 (Some 5)))
+    (standing.Sleeps stage.Asleep None ∷ standing.Sleeps stage.Asleep (Some outcome) ∷ [])
+    ≡ phase.Asleep (named 4) 2 ∷ phase.Asleep (named 4) 18446744073709551614 ∷ []
+asleep_phases = refl
 
 wakeup_phases : map (phase_in (call.Wakeup 4 3))
     (standing.Begins ∷ standing.Owes ∷ standing.Holds 6 ∷ standing.Served ∷ [])

@@ -28,10 +28,11 @@ use Rattle.calls.specs.declared.process.Standing.TheVariants as standing
 use Rattle.calls.specs.declared.rendez.Rendez.{Rendez}
 use Rattle.calls.specs.declared.rendez.Stage.{Stage}
 use Rattle.calls.specs.declared.rendez.Stage.TheVariants as stage
-use Rattle.calls.specs.Calls.{rendez_of, threshold_of}
+use Rattle.calls.specs.Calls.{rendez_of}
 use Rattle.calls.specs.Machine.{system_of}
 use Rattle.calls.specs.Position.{Position, after_of, opening_of, status_of}
 use Rattle.calls.specs.Program.{IsProgram, Program, procs_of}
+use Rattle.calls.specs.Sleeps.{above}
 use Rattle.explored_core.specs.CorePrograms.{IsOfCore}
 use Rattle.explored_core.specs.Spots.{spot_of}
 
@@ -40,31 +41,35 @@ named rendez = record { 0 = rendez }
 
 -- ---- the event of a step
 
--- the event with which a call begins
+-- the event with which a call begins: a sleep with a deadline sets its timer before that
 abbrev pub first_event : ℕ → Call → Option Event
-first_event pid (call.Sleep rendez threshold deadline) =
+first_event pid (call.Sleep rendez threshold None) =
     Some (Post (proc pid) (named rendez) threshold)
 first_event pid (call.Wakeup rendez level) = Some (Raise (proc pid) (named rendez) level)
 first_event pid (call.Note other notes) = Some (event.Note (proc other) notes)
 first_event pid call.Drain = Some (Drain (proc pid))
 first_event pid other = None
 
-abbrev pub sleep_event : ℕ → Call → Stage → Option Event
-sleep_event pid made stage.Posts = first_event pid made
-sleep_event pid made stage.Tests = Some (Test (proc pid))
-sleep_event pid made stage.Asleep = Some (Look (proc pid))
-sleep_event pid made stage.Leaves = Some (Withdraw (proc pid))
-sleep_event pid made stage.Awaits = Some (Look (proc pid))
-sleep_event pid made stage.Woken = Some (Clear (proc pid))
-sleep_event pid made stage.Out = Some (Clear (proc pid))
+-- and that of a sleep which is above this threshold
+abbrev pub sleep_event : ℕ → Call → ℕ → Stage → Event
+sleep_event pid made threshold stage.Posts = Post (proc pid) (named (rendez_of made)) threshold
+sleep_event pid made threshold stage.Tests = Test (proc pid)
+sleep_event pid made threshold stage.Asleep = Look (proc pid)
+sleep_event pid made threshold stage.Leaves = Withdraw (proc pid)
+sleep_event pid made threshold stage.Awaits = Look (proc pid)
+sleep_event pid made threshold stage.Woken = Clear (proc pid)
+sleep_event pid made threshold stage.Out = Clear (proc pid)
 
 -- After "Process Sleep and Synchronization on a Shared-Memory Multiprocessor" (1991): the event of
 -- a process whose call stands so, if its next step is one of the core
 abbrev pub event_in : ℕ → Call → Standing → Option Event
 event_in pid made standing.Begins = first_event pid made
-event_in pid made (standing.Sleeps next outcome) = sleep_event pid made next
+event_in pid made (standing.Sleeps next outcome) =
+    Some (sleep_event pid made (above made outcome) next)
 event_in pid made standing.Owes = Some (Take (proc pid))
 event_in pid made (standing.Holds sleeper) = Some (Mark (proc pid))
+event_in pid made (standing.Drains outcome) = Some (Drain (proc pid))
+event_in pid made (standing.PutsBack notes) = Some (event.Note (proc pid) notes)
 event_in pid made other = None
 
 abbrev pub event_by : ℕ → Standing → Option Line → Option Event
@@ -87,18 +92,18 @@ abbrev pub raised_by : Call → ℕ
 raised_by (call.Wakeup rendez level) = level
 raised_by other = 0
 
-abbrev pub sleep_phase : Call → Stage → Phase
-sleep_phase made stage.Posts = phase.Idle
-sleep_phase made stage.Tests = phase.Posted (named (rendez_of made)) (threshold_of made)
-sleep_phase made stage.Asleep = phase.Asleep (named (rendez_of made)) (threshold_of made)
-sleep_phase made stage.Leaves = phase.Leaving (named (rendez_of made))
-sleep_phase made stage.Awaits = phase.Awaiting
-sleep_phase made stage.Woken = phase.Woken
-sleep_phase made stage.Out = phase.Out
+abbrev pub sleep_phase : Call → ℕ → Stage → Phase
+sleep_phase made threshold stage.Posts = phase.Idle
+sleep_phase made threshold stage.Tests = phase.Posted (named (rendez_of made)) threshold
+sleep_phase made threshold stage.Asleep = phase.Asleep (named (rendez_of made)) threshold
+sleep_phase made threshold stage.Leaves = phase.Leaving (named (rendez_of made))
+sleep_phase made threshold stage.Awaits = phase.Awaiting
+sleep_phase made threshold stage.Woken = phase.Woken
+sleep_phase made threshold stage.Out = phase.Out
 
 -- the phase of a process whose call stands so
 abbrev pub phase_in : Call → Standing → Phase
-phase_in made (standing.Sleeps next outcome) = sleep_phase made next
+phase_in made (standing.Sleeps next outcome) = sleep_phase made (above made outcome) next
 phase_in made standing.Owes = phase.Owing (named (rendez_of made)) (raised_by made)
 phase_in made (standing.Holds sleeper) =
     phase.Holding (proc sleeper) (named (rendez_of made)) (raised_by made)
