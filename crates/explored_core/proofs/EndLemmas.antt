@@ -1,6 +1,7 @@
 -- Runs of the library's calls, in the machine that is explored.
 use Rattle.std.proofs.Common.{◌≡◌, Bool, true, false, cond, not, List, [], ◌∷◌, refl, sym, ◌∙◌, ap}
 use Rattle.std.proofs.Common.{subst}
+use Rattle.searches.specs.declared.order.Order.TheVariants as order
 use Rattle.searches.specs.Schedule as movers
 use Rattle.sleep_core.specs.declared.answer.Answer.{Answer}
 use Rattle.sleep_core.specs.declared.answer.Answer.TheVariants as answer
@@ -13,10 +14,12 @@ use Rattle.schedules.specs.Schedule.{position_of}
 use Rattle.schedules.proofs.LibraryEnds.{unstuck_runs_end}
 use Rattle.schedules.proofs.LibraryLemmas.{runs_are_schedules}
 use Rattle.calls.specs.Machine.{system_of}
-use Rattle.explored_core.specs.CoreEnds.{CoreRunsEnd, LibraryRunsAreExplored}
+use Rattle.explored_core.specs.CoreEnds.{CoreRunsEnd, EndsHoldsOfLibrary}
+use Rattle.explored_core.specs.CoreEnds.{LibraryRunsAreExplored}
 use Rattle.explored_core.specs.CoreSteps.{IsPlayed, core_run, makers_of, moves_of, world_at}
 use Rattle.explored_core.proofs.LineLemmas.{is_named}
 use Rattle.explored_core.proofs.RunLemmas.{do_the_same, played}
+use Rattle.explored_core.proofs.ToldLemmas.{are_told}
 
 -- a step that is kept is no look that found nothing
 not_parked : (told : Answer) (made : Event) → is_kept told made ≡ true → is_parked told ≡ false
@@ -67,3 +70,10 @@ runs_end program core is of_core never =
     unstuck_runs_end core (is_named program core is of_core)
     (λ past schedule. sym (played program core is of_core past schedule).stuck
     ∙ never (makers_of (moves_of past)) (played program core is of_core past schedule).schedule)
+
+-- So it is where a search finds that the program ends.
+pub ends_hold : EndsHoldsOfLibrary
+ends_hold program core order.Shortest most states is told so =
+    runs_end program core is ((are_told program core).0 told) so.0
+ends_hold program core order.Any most states is told so =
+    runs_end program core is ((are_told program core).0 told) so.0

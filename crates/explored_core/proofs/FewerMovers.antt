@@ -20,7 +20,7 @@ use Rattle.searches.specs.Ends.{AlwaysCanEnd, ComesToCaught, GetsCaught, GoesOnT
 use Rattle.searches.specs.Ends.{NoneEnds, SomeEnds}
 use Rattle.searches.specs.Schedule.{AreReached, CanMove, ComesToStuck, GetsStuck, IsAlong, IsNear}
 use Rattle.searches.specs.Schedule.{IsReached, IsSchedule, LeadsInto, NeverStuck, NotStuckBefore}
-use Rattle.searches.specs.Schedule.{ReachesAlong, ReachesJust, ReachesWithin}
+use Rattle.searches.specs.Schedule.{ReachesAlong, ReachesJust, ReachesMany, ReachesWithin}
 use Rattle.searches.specs.Schedule.{position_of}
 use Rattle.searches.specs.Stuck.{goes_on, has_ended, is_stuck, some_below}
 use Rattle.searches.specs.System.{System}
@@ -273,6 +273,11 @@ module _ {Position : Type 0} (machine : System Position) (few : ℕ) where
               are.reached;
           differ = are.differ;
         }
+
+    -- so many positions are reached by it
+    pub reaches_many_by_fewer : (count : ℕ) → ReachesMany machine count → ReachesMany fewer count
+    reaches_many_by_fewer count so =
+        record { positions = so.positions; are = are_reached count so.positions so.are }
 
     is_near : (steps : ℕ) (at : Position) → IsNear machine steps at → IsNear fewer steps at
     is_near steps at near =

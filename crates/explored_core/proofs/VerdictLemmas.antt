@@ -1,5 +1,5 @@
 -- A program of the core is the image of its machine, but for movers that never have a step.
-use Rattle.std.proofs.Common.{◌≡◌, ◌<◌, ℕ, List, get_or}
+use Rattle.std.proofs.Common.{◌≡◌, inl, inr, ◌<◌, ℕ, List, get_or}
 use Rattle.std.proofs.Common.{refl, sym, ◌∙◌, ap, subst, arith}
 use Rattle.std.specs.Prelude.{slice_get}
 use Rattle.std.proofs.lemmas.List.{ext_get_or}
@@ -8,7 +8,8 @@ use Rattle.sleep_core.specs.State.{State}
 use Rattle.searches.specs.Images.{IsImage}
 use Rattle.searches.specs.Schedule as movers
 use Rattle.searches.specs.System.{System}
-use Rattle.searches.proofs.ImageLemmas.{verdicts_are_one}
+use Rattle.searches.proofs.AlikeLemmas.{reaches_many, turned}
+use Rattle.searches.proofs.ImageLemmas.{are_alike, verdicts_are_one}
 use Rattle.schedules.specs.Machine as scheduled
 use Rattle.schedules.specs.Position.{Position as CorePosition, place_of}
 use Rattle.schedules.specs.Program.{Program as CoreProgram, calls_of, top_of}
@@ -17,16 +18,17 @@ use Rattle.schedules.proofs.MoverLemmas.{reached_as}
 use Rattle.schedules.proofs.ReachedLemmas.{of_calls_reached, sized_reached}
 use Rattle.schedules.proofs.TopLemmas.{top_is}
 use Rattle.schedules.proofs.ValidPositions.{IsOfCalls, IsSized}
-use Rattle.schedules.proofs.VerdictLemmas.{holds_so}
+use Rattle.schedules.proofs.VerdictLemmas.{holds_so, large_so}
 use Rattle.calls.specs.declared.process.Process.{Process}
 use Rattle.calls.specs.Machine.{system_of}
 use Rattle.calls.specs.Position.{Position, status_of}
 use Rattle.calls.specs.Program.{IsProgram, Program, procs_of}
 use Rattle.explored_core.specs.CorePrograms.{IsOfCore}
 use Rattle.explored_core.specs.CoreSteps.{IsOfSchedule, core_run, world_at}
-use Rattle.explored_core.specs.CoreVerdicts.{CoreVerdictsHold}
+use Rattle.explored_core.specs.CoreVerdicts.{CoreVerdictsHold, LargeProgramsAreLarge}
 use Rattle.explored_core.specs.Spots.{process_at, spot_of}
 use Rattle.explored_core.proofs.FewerMovers.{OthersRest, fewer, holds_of_fewer}
+use Rattle.explored_core.proofs.FewerMovers.{reaches_many_by_fewer}
 use Rattle.explored_core.proofs.LineLemmas.{one_place}
 use Rattle.explored_core.proofs.ListLemmas.{found_at}
 use Rattle.explored_core.proofs.RunLemmas.{do_the_same, of_schedule}
@@ -124,3 +126,26 @@ verdicts_hold program core order most verdict is of_core so =
     (spot_of program) order most verdict (spots_are_images program core is of_core)).1
     (holds_of_fewer (system_of program) (procs_of program) (omega arith)
     (others_rest program core is of_core) order most verdict so))
+
+-- and where it is large they are
+pub large_are_large : LargeProgramsAreLarge
+large_are_large program core is of_core numbered (inl wide) = absurd (omega (arith, numbered, wide))
+large_are_large program core is of_core numbered (inr (many, wide, reached)) =
+    large_so core
+    (inr (
+      many,
+      wide,
+      reaches_many outer_machine inner_machine
+          (turned inner_machine outer_machine
+          (are_alike inner_machine outer_machine (spot_of program)
+          (spots_are_images program core is of_core)))
+          many
+          (reaches_many_by_fewer (system_of program) (procs_of program) (omega arith)
+          (others_rest program core is of_core) many reached),
+    ))
+  where
+    inner_machine : System CorePosition
+    inner_machine = inner program core is of_core
+
+    outer_machine : System Position
+    outer_machine = outer program core is of_core

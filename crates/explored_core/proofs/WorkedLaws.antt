@@ -1,5 +1,5 @@
 -- What the laws say of a program of the core, one example for each clause of them.
-use Rattle.std.proofs.Common.{◌≡◌, ◌≤◌, ◌<◌, ℕ, false, Option, Some, None, List, [], ◌∷◌}
+use Rattle.std.proofs.Common.{◌≡◌, ◌≤◌, ◌<◌, ◌^◌, ℕ, false, Option, Some, None, List, [], ◌∷◌}
 use Rattle.std.proofs.Common.{refl, ap}
 use Rattle.rendez_words.specs.declared.words.Words.{Words}
 use Rattle.searches.specs.declared.order.Order.TheVariants as order
@@ -7,6 +7,7 @@ use Rattle.searches.specs.declared.status.Status.TheVariants as status
 use Rattle.searches.specs.declared.verdict.Verdict.TheVariants as verdict
 use Rattle.searches.specs.Schedule as movers
 use Rattle.searches.specs.Stuck.{is_stuck}
+use Rattle.searches.specs.Faults.{IsLarge}
 use Rattle.searches.specs.Verdict.{HoldsIn}
 use Rattle.sleep_core.specs.declared.answer.Answer.{Answer}
 use Rattle.sleep_core.specs.declared.answer.Answer.TheVariants as answer
@@ -19,6 +20,7 @@ use Rattle.schedules.specs.LibraryRuns.{IsOfLibrary, NoRunDeadlocks}
 use Rattle.schedules.specs.Position as scheduled
 use Rattle.schedules.specs.Program.{Program as CoreProgram, proc}
 use Rattle.schedules.specs.Schedule.{IsSchedule, NeverStuck, position_of}
+use Rattle.schedules.specs.Verdict as scheduled_large
 use Rattle.schedules.specs.Walks.{IsKernelOf}
 use Rattle.calls.specs.declared.call.Call.{Call}
 use Rattle.calls.specs.declared.call.Call.TheVariants as call
@@ -26,13 +28,14 @@ use Rattle.calls.specs.declared.line.Line.{Line}
 use Rattle.calls.specs.Machine.{system_of}
 use Rattle.calls.specs.Position.{Position, after_of, opening_of, status_of}
 use Rattle.calls.specs.Program.{IsProgram, Program}
-use Rattle.explored_core.specs.CoreEnds.{CoreRunsEnd, IsExplored, LibraryRunsAreExplored}
+use Rattle.explored_core.specs.CoreEnds.{CoreRunsEnd, EndsHoldsOfLibrary, IsExplored}
+use Rattle.explored_core.specs.CoreEnds.{LibraryRunsAreExplored}
 use Rattle.explored_core.specs.CoreLines.{CoreProgramsHaveLines, lines_of}
 use Rattle.explored_core.specs.CorePrograms.{CoreProgramsAreTold, IsOfCore, core_in}
 use Rattle.explored_core.specs.CoreSteps.{CoreCallsAreSchedules, CoreProgramsDoTheSame, core_run}
 use Rattle.explored_core.specs.CoreSteps.{PlayedSchedulesAreOfCore, event_at, makers_of, moves_of}
 use Rattle.explored_core.specs.CoreSteps.{named, world_at}
-use Rattle.explored_core.specs.CoreVerdicts.{CoreVerdictsHold}
+use Rattle.explored_core.specs.CoreVerdicts.{CoreVerdictsHold, LargeProgramsAreLarge}
 use Rattle.explored_core.specs.Spots.{spot_of}
 
 abbrev line : Call → Line
@@ -176,11 +179,21 @@ module _ (of : IsOfCore pair lists) (schedule : IsSchedule lists looked) where
   no_run_deadlocks : CoreRunsEnd → movers.NeverStuck (system_of pair) → NoRunDeadlocks lists
   no_run_deadlocks law never = law pair lists is_program of never
 
+  none_after_ends : EndsHoldsOfLibrary
+      → HoldsIn (system_of pair) order.Any 100 (verdict.Ends 7)
+      → NoRunDeadlocks lists
+  none_after_ends law so = law pair lists order.Any 100 7 is_program refl so
+
   -- a verdict is one of the schedules
   never_stuck : CoreVerdictsHold
       → HoldsIn (system_of pair) order.Shortest 100 (verdict.Ends 7)
       → NeverStuck lists
   never_stuck law so = (law pair lists order.Shortest 100 (verdict.Ends 7) is_program of so).0
+
+  -- five movers have numbers
+  as_large : LargeProgramsAreLarge → 5 < 2 ^ 32 → IsLarge (system_of pair)
+      → scheduled_large.IsLarge lists
+  as_large law numbered large = law pair lists is_program of numbered large
 
 -- one may not wake before it has begun
 abbrev first_of : List Entry → Option Event

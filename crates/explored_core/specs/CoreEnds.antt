@@ -1,7 +1,10 @@
 -- What the machine that is explored says of the library's calls.
-use Rattle.std.specs.Prelude.{◌≡◌, List}
+use Rattle.std.specs.Prelude.{◌≡◌, ℕ, Some, List}
 use Rattle.rendez_words.specs.declared.words.Words.{Words}
+use Rattle.searches.specs.declared.order.Order.{Order}
+use Rattle.searches.specs.declared.verdict.Verdict.TheVariants as verdict
 use Rattle.searches.specs.Schedule as movers
+use Rattle.searches.specs.Verdict.{HoldsIn}
 use Rattle.sleep_core.specs.Runs.{Entry, kept, world_of}
 use Rattle.sleep_core.specs.State.{bare}
 use Rattle.schedules.specs.LibraryRuns.{IsOfLibrary, NoRunDeadlocks}
@@ -9,7 +12,7 @@ use Rattle.schedules.specs.Program.{Program as CoreProgram, procs_of}
 use Rattle.schedules.specs.Walks.{IsKernelOf}
 use Rattle.calls.specs.Machine.{system_of}
 use Rattle.calls.specs.Program.{IsProgram, Program}
-use Rattle.explored_core.specs.CorePrograms.{IsOfCore}
+use Rattle.explored_core.specs.CorePrograms.{IsOfCore, core_in}
 use Rattle.explored_core.specs.CoreSteps.{core_run, makers_of, world_at}
 
 -- Where those move who made the steps that are kept of a run, the machine makes just these steps,
@@ -39,4 +42,14 @@ CoreRunsEnd =
     → IsProgram program
     → IsOfCore program core
     → movers.NeverStuck (system_of program)
+    → NoRunDeadlocks core
+
+-- So if a search finds that a program ends, which is told to be of the core, no run of the library's
+-- calls of its lists deadlocks.
+abbrev pub EndsHoldsOfLibrary : Type 0
+EndsHoldsOfLibrary =
+    (program : Program) (core : CoreProgram) (order : Order) (most states : ℕ)
+    → IsProgram program
+    → core_in program ≡ Some core
+    → HoldsIn (system_of program) order most (verdict.Ends states)
     → NoRunDeadlocks core
