@@ -44,8 +44,8 @@ CoreRunsEnd =
     → movers.NeverStuck (system_of program)
     → NoRunDeadlocks core
 
--- So if a search finds that a program ends, which is told to be of the core, no run of the library's
--- calls of its lists deadlocks.
+-- So if a search finds that a program ends which is told to be of the core, no run of the
+-- library's calls of its lists deadlocks.
 abbrev pub EndsHoldsOfLibrary : Type 0
 EndsHoldsOfLibrary =
     (program : Program) (core : CoreProgram) (order : Order) (most states : ℕ)
