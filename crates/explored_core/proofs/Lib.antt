@@ -10,3 +10,4 @@ pub mod EndLemmas
 pub mod VerdictLemmas
 mod WorkedCore
 mod WorkedLaws
+pub mod ShownLemmas

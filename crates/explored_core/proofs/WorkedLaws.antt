@@ -1,5 +1,5 @@
 -- What the laws say of a program of the core, one example for each clause of them.
-use Rattle.std.proofs.Common.{◌≡◌, ◌≤◌, ◌<◌, ◌^◌, ℕ, false, Option, Some, None, List, [], ◌∷◌}
+use Rattle.std.proofs.Common.{◌≡◌, ◌⊎◌, ◌≤◌, ◌<◌, ◌^◌, ℕ, false, Option, Some, None, List, [], ◌∷◌}
 use Rattle.std.proofs.Common.{refl, ap}
 use Rattle.rendez_words.specs.declared.words.Words.{Words}
 use Rattle.searches.specs.declared.order.Order.TheVariants as order
@@ -16,7 +16,7 @@ use Rattle.sleep_core.specs.declared.event.Event.TheVariants as event
 use Rattle.sleep_core.specs.Runs.{Entry, world_of}
 use Rattle.sleep_core.specs.State.{bare}
 use Rattle.schedules.specs.declared.call.Call.TheVariants as calling
-use Rattle.schedules.specs.LibraryRuns.{IsOfLibrary, NoRunDeadlocks}
+use Rattle.schedules.specs.LibraryRuns.{IsOfLibrary, IsParkedAfter, NoRunDeadlocks}
 use Rattle.schedules.specs.Position as scheduled
 use Rattle.schedules.specs.Program.{Program as CoreProgram, proc}
 use Rattle.schedules.specs.Schedule.{IsSchedule, NeverStuck, position_of}
@@ -29,7 +29,7 @@ use Rattle.calls.specs.Machine.{system_of}
 use Rattle.calls.specs.Position.{Position, after_of, opening_of, status_of}
 use Rattle.calls.specs.Program.{IsProgram, Program}
 use Rattle.explored_core.specs.CoreEnds.{CoreRunsEnd, EndsHoldsOfLibrary, IsExplored}
-use Rattle.explored_core.specs.CoreEnds.{LibraryRunsAreExplored}
+use Rattle.explored_core.specs.CoreEnds.{LibraryRunsAreExplored, StuckRunsDeadlock}
 use Rattle.explored_core.specs.CoreLines.{CoreProgramsHaveLines, lines_of}
 use Rattle.explored_core.specs.CorePrograms.{CoreProgramsAreTold, IsOfCore, core_in}
 use Rattle.explored_core.specs.CoreSteps.{CoreCallsAreSchedules, CoreProgramsDoTheSame, core_run}
@@ -183,6 +183,31 @@ module _ (of : IsOfCore pair lists) (schedule : IsSchedule lists looked) where
       → HoldsIn (system_of pair) order.Any 100 (verdict.Ends 7)
       → NoRunDeadlocks lists
   none_after_ends law so = law pair lists order.Any 100 7 is_program refl so
+
+  -- what it shows where it is stuck
+  module _ (law : StuckRunsDeadlock) (words : Words) (size : IsKernelOf lists words)
+      (comes : movers.ComesToStuck (system_of pair) (0 ∷ 0 ∷ 1 ∷ 1 ∷ [])) where
+    abbrev shown : List Entry
+    shown =
+        by 0 (event.Test (proc 0)) answer.Leaving
+        ∷ by 0 (event.Post (proc 0) (named 0) 2) answer.Posted
+        ∷ by 1 (event.Take (proc 1)) answer.Nobody
+        ∷ by 1 (event.Raise (proc 1) (named 0) 3) answer.Owing
+        ∷ []
+
+    a_run_of_the_library : IsOfLibrary lists words shown
+    a_run_of_the_library =
+        (law pair lists words (0 ∷ 0 ∷ 1 ∷ 1 ∷ []) is_program of size comes).run
+
+    over_or_parked : 1 < 2
+        → (scheduled.status_of lists (position_of lists shown) 1 ≡ status.Ended)
+        ⊎ IsParkedAfter lists shown 1
+    over_or_parked low =
+        (law pair lists words (0 ∷ 0 ∷ 1 ∷ 1 ∷ []) is_program of size comes).stopped 1 low
+
+    somebody_waits : (pid : ℕ) × (pid < 2) × IsParkedAfter lists shown pid
+    somebody_waits =
+        (law pair lists words (0 ∷ 0 ∷ 1 ∷ 1 ∷ []) is_program of size comes).waits
 
   -- a verdict is one of the schedules
   never_stuck : CoreVerdictsHold

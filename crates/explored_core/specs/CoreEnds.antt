@@ -1,14 +1,17 @@
 -- What the machine that is explored says of the library's calls.
-use Rattle.std.specs.Prelude.{◌≡◌, ℕ, Some, List}
+use Rattle.std.specs.Prelude.{◌≡◌, ◌⊎◌, ◌<◌, ℕ, Some, List}
 use Rattle.rendez_words.specs.declared.words.Words.{Words}
 use Rattle.searches.specs.declared.order.Order.{Order}
+use Rattle.searches.specs.declared.status.Status.TheVariants as status
 use Rattle.searches.specs.declared.verdict.Verdict.TheVariants as verdict
 use Rattle.searches.specs.Schedule as movers
 use Rattle.searches.specs.Verdict.{HoldsIn}
 use Rattle.sleep_core.specs.Runs.{Entry, kept, world_of}
 use Rattle.sleep_core.specs.State.{bare}
-use Rattle.schedules.specs.LibraryRuns.{IsOfLibrary, NoRunDeadlocks}
+use Rattle.schedules.specs.LibraryRuns.{IsOfLibrary, IsParkedAfter, NoRunDeadlocks}
+use Rattle.schedules.specs.Position.{status_of}
 use Rattle.schedules.specs.Program.{Program as CoreProgram, procs_of}
+use Rattle.schedules.specs.Schedule.{position_of}
 use Rattle.schedules.specs.Walks.{IsKernelOf}
 use Rattle.calls.specs.Machine.{system_of}
 use Rattle.calls.specs.Program.{IsProgram, Program}
@@ -53,3 +56,22 @@ EndsHoldsOfLibrary =
     → core_in program ≡ Some core
     → HoldsIn (system_of program) order most (verdict.Ends states)
     → NoRunDeadlocks core
+
+-- A run of the library's calls that deadlocks: after it each process is parked, or its schedule has
+-- ended, and some process is parked.
+pub record Deadlocks (core : CoreProgram) (words : Words) (past : List Entry) : Type 0 where
+  pub run : IsOfLibrary core words past
+  pub stopped : (pid : ℕ)
+      → pid < procs_of core
+      → (status_of core (position_of core past) pid ≡ status.Ended) ⊎ IsParkedAfter core past pid
+  pub waits : (pid : ℕ) × (pid < procs_of core) × IsParkedAfter core past pid
+
+-- Where the machine gets stuck, it shows such a run.
+abbrev pub StuckRunsDeadlock : Type 0
+StuckRunsDeadlock =
+    (program : Program) (core : CoreProgram) (words : Words) (past : List ℕ)
+    → IsProgram program
+    → IsOfCore program core
+    → IsKernelOf core words
+    → movers.ComesToStuck (system_of program) past
+    → Deadlocks core words (core_run program past)

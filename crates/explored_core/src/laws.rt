@@ -5,7 +5,7 @@ ghost use Rattle.explored_core.specs.CorePrograms.{CoreProgramsAreTold};
 ghost use Rattle.explored_core.specs.CoreSteps.{CoreCallsAreSchedules, CoreProgramsDoTheSame};
 ghost use Rattle.explored_core.specs.CoreSteps.{PlayedSchedulesAreOfCore};
 ghost use Rattle.explored_core.specs.CoreEnds.{CoreRunsEnd, EndsHoldsOfLibrary};
-ghost use Rattle.explored_core.specs.CoreEnds.{LibraryRunsAreExplored};
+ghost use Rattle.explored_core.specs.CoreEnds.{LibraryRunsAreExplored, StuckRunsDeadlock};
 ghost use Rattle.explored_core.specs.CoreVerdicts.{CoreVerdictsHold, LargeProgramsAreLarge};
 
 /// A program of lines whose processes make lists of sleeps, wakeups, notes and drains does what the
@@ -25,11 +25,13 @@ pub fn core_calls_are_schedules()
 /// Each run in which processes make the library's calls of their lists, as far as it has come, is
 /// one of the explorer's machine, not counting steps that change nothing: with the same events and
 /// answers, to the same world. So if that machine is never stuck, no such run deadlocks; nor does
-/// one if a search finds that the program ends.
+/// one if a search finds that the program ends. Where the machine gets stuck, it shows a run of
+/// those calls that deadlocks.
 pub fn core_runs_end()
     ensures runs { LibraryRunsAreExplored }
     ensures ends { CoreRunsEnd }
     ensures answers { EndsHoldsOfLibrary }
+    ensures deadlocks { StuckRunsDeadlock }
 {}
 
 /// What is found of such a program is so of its schedules, in which who is asleep may look and find
