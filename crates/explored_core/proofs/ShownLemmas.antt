@@ -1,5 +1,6 @@
 -- What the machine shows where it is stuck is a run of the library's calls that deadlocks.
-use Rattle.std.proofs.Common.{◌≡◌, ◌⊎◌, inl, inr, ◌≤◌, ◌<◌, leb, ◌&&◌, ◌||◌, ℕ, zero, suc, Bool, true, false, not}
+use Rattle.std.proofs.Common.{◌≡◌, ◌⊎◌, inl, inr, ◌≤◌, ◌<◌, leb, ◌&&◌, ◌||◌, ℕ, zero, suc, Bool}
+use Rattle.std.proofs.Common.{true, false, not}
 use Rattle.std.proofs.Common.{if◌then◌else◌, Option, Some, None, List, refl, ◌∙◌, ap, arith}
 use Rattle.std.proofs.lemmas.Bool.Decides.{leb_tells}
 use Rattle.sleep_core.specs.declared.answer.Answer.{Answer}
@@ -18,7 +19,8 @@ use Rattle.searches.specs.Stuck.{goes_on, has_ended, some_below}
 use Rattle.schedules.specs.declared.call.Call.{Call as CoreCall}
 use Rattle.schedules.specs.declared.call.Call.TheVariants as calling
 use Rattle.schedules.specs.LibraryRuns.{IsParkedAfter}
-use Rattle.schedules.specs.Position.{Position as CorePosition, call_of, event_at, is_stuck, status_at}
+use Rattle.schedules.specs.Position.{Position as CorePosition, call_of, event_at, is_stuck}
+use Rattle.schedules.specs.Position.{status_at}
 use Rattle.schedules.specs.Position.{status_of}
 use Rattle.schedules.specs.Program.{Program as CoreProgram, event_in, proc, procs_of}
 use Rattle.schedules.specs.Schedule.{position_of}
