@@ -145,8 +145,11 @@ begins_rightly limit d holders pid (Hangs seat at) begins = tt
 
 -- a process sleeps at the place of one of its seats
 pub record Own (row : Row) (holders : Holders) (pid : ℕ) (there : RendezId) : Type 0 where
+  -- the number of the seat
   pub seat : ℕ
+  -- the process has that seat
   pub holds : Holds holders pid seat
+  -- this is its place in the row
   pub place : there.0 ≡ row.first + seat
 
 -- each seat has a place in the row
@@ -365,8 +368,8 @@ module _ (limit : ℕ) (row : Row) (holders : Holders) (rendez procs : ℕ)
           states = length-set at.states move.by new ∙ due.states;
           levels = levels_stay at.levels (call_does limit row old) move.grain ∙ due.levels;
           fits = well.fits_now;
-          own = λ pid within. all_now (λ p call. p < procs → IsBy holders p call) (λ there. own_still)
-              (λ other differ there. due.own other there) pid within;
+          own = λ pid within. all_now (λ p call. p < procs → IsBy holders p call)
+              (λ there. own_still) (λ other differ there. due.own other there) pid within;
           rightly = λ pid within.
               all_now (λ p call. p < procs → WaitsRightly limit object_now call)
               (λ there. well.rightly)

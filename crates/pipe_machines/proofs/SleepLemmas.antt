@@ -174,8 +174,9 @@ module _ (limit : ℕ) (row : Row) where
   -- a call that sleeps does so where it can be woken
   pub record SleepsRightly (d : DirectionState) (holders : Holders) (pid : ℕ) (there : RendezId)
       (number : ℕ) (call : CallState) : Type 0 where
-    -- by a seat of its process
+    -- by the seat with this number
     pub seat : ℕ
+    -- which its process has
     pub holds : Holds holders pid seat
     -- in the Rendez of that seat
     pub its_own : there.0 ≡ row.first + seat
