@@ -23,6 +23,9 @@ use Rattle.tag_space.specs.GroupObject as object
 use Rattle.timer_list.specs.declared.timer_object.Timer.{Timer}
 use Rattle.timer_list.specs.declared.timer_object.Timer.TheVariants as timer
 use Rattle.waiting.specs.declared.wait.WaitEnd.TheVariants.{Answered}
+use Rattle.pipe_dev.specs.declared.row.Row.{Row}
+use Rattle.sync_base.specs.declared.mode.Mode.TheVariants.{Message}
+use Rattle.pipe_machines.specs.PipeRuns.{Holders}
 use Rattle.call_machines.specs.Grain.{coarse_of, moves_of}
 use Rattle.call_machines.specs.Programs.{Program, ProgramState}
 use Rattle.call_machines.specs.Programs.ProgramState.{Ended, In}
@@ -104,12 +107,21 @@ module _ (lock : Locked SemaState SemaCall SemaReply)
         numbered = omega arith;
       }
 
-  -- the semaphore has no unit at first
+  -- a direction that is said to be where none is
+  abbrev direction : Row
+  direction = record { first = 6; writers = 1; mode = Message; small = omega arith }
+
+  abbrev holders : Holders
+  holders = record { reader = 1; writers = 0 ∷ [] }
+
+  -- the semaphore has no unit at first, and there is no pipe
   abbrev objects : Objects
   objects =
       record {
         semas = record { sema = sema; value = 0 } ∷ [];
         none = record { sema = sema; value = 0 };
+        pipes = [];
+        no_pipe = record { limit = 1; row = direction; holders = holders };
         space = space;
         choices = [];
         procs = 3;
@@ -472,6 +484,9 @@ module _ (lock : Locked SemaState SemaCall SemaReply)
       before zero low = inl (omega arith)
       before (suc number) low = absurd (let one : suc number < 1 = low in omega arith)
 
+      no_pipes : (number : ℕ) → number < 0 → ⊥
+      no_pipes number low = omega (arith, low)
+
       in_one_world : AreInOneWorld objects
       in_one_world =
           record {
@@ -479,6 +494,10 @@ module _ (lock : Locked SemaState SemaCall SemaReply)
             room = record { members = omega arith; row = omega arith };
             semas_apart = apart;
             space_apart = before;
+            pipes = λ number low. absurd (no_pipes number low);
+            pipes_apart = λ number other low there differs. absurd (no_pipes number low);
+            pipe_sema_apart = λ number other low there. absurd (no_pipes number low);
+            pipe_space_apart = λ number low. absurd (no_pipes number low);
           }
 
   -- the first process is at its acquire, or takes its notes where that timed out
