@@ -49,7 +49,7 @@ use Rattle.timer_machines.specs.TimedMachines.TimedState.{Awaits, Begins, Waits}
 use Rattle.timed_machines.specs.TimedCalls.{TimedObject}
 use Rattle.timed_machines.specs.TimedCalls.TimedCall.{Plain, Tick, Until}
 use Rattle.timed_machines.specs.TimedObjects.{TimedObjectCall, TimedObjectOut, timed_calls_at}
-use Rattle.std.proofs.Common.{◌∙◌, ap, length, subst, sym}
+use Rattle.std.proofs.Common.{◌∙◌, ◌⊎◌, ap, length, subst, sym}
 use Rattle.std.specs.Prelude.{⊤, slice_index_or}
 use Rattle.sync_base.specs.declared.note.Note.TheVariants.{Alarm}
 use Rattle.semaphore.specs.declared.sema_object.SemaCall.TheVariants.{Acquire}

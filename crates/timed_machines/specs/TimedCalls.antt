@@ -57,9 +57,9 @@ module _ {At Request Reply Out Object : Type 0} (system : System At Request Repl
       Tick now (tick_goes_on (procs system) (procs system) now at Outcome.Went)
   call_goes_on at came = at
 
-  abbrev pub timed_answer : TimedObject Object → TimedRequest Request → TimedReply Reply
-  timed_answer s (ToDevice request) = FromDevice (system.answer s.device request)
-  timed_answer s (ToTimers call) = FromTimers (timing.answer_to s.timers call)
+  abbrev pub timed_reply : TimedObject Object → TimedRequest Request → TimedReply Reply
+  timed_reply s (ToDevice request) = FromDevice (system.answer s.device request)
+  timed_reply s (ToTimers call) = FromTimers (timing.answer_to s.timers call)
 
   abbrev pub timed_after : TimedObject Object → TimedRequest Request → TimedObject Object
   timed_after s (ToDevice request) = record s { device = system.after s.device request }
@@ -72,7 +72,7 @@ module _ {At Request Reply Out Object : Type 0} (system : System At Request Repl
   timed_calls =
       record {
         machine = record { does = call_does; goes_on = call_goes_on };
-        answer = timed_answer;
+        answer = timed_reply;
         after = timed_after;
         opening = record { device = system.opening; timers = replicate (procs system) Unset };
         rendez = system.rendez;
