@@ -73,7 +73,7 @@ use Rattle.timer_machines.specs.Requests.TimedRequest.{ToDevice, ToTimers}
 use Rattle.timer_machines.specs.TimedMachines.TimedState.{Drains}
 use Rattle.timed_machines.specs.NotesKept.{KeepsNotes}
 use Rattle.timed_machines.specs.TimedEnds.{BeginsTimed, IsOfWait, IsTick, IsToTell, IsTold}
-use Rattle.timed_machines.specs.TimedEnds.{NoteComes, timed_goes}
+use Rattle.timed_machines.specs.TimedEnds.{LacksNote, NoteComes, timed_goes}
 use Rattle.timed_machines.specs.TimedEnds.NoteComes.{IsOwed, IsPending}
 use Rattle.timed_machines.specs.TimedObjects.{AreTimedPrograms, TimedGoesOn, is_timed_unworn}
 
@@ -334,6 +334,15 @@ module _ (lock : Locked SemaState SemaCall SemaReply)
   a_timer_is_left_set : IsOfWait (object_calls objects) program
       (Some 0 ∷ Some 1 ∷ Some 3 ∷ []) awaiting (timer.Set (proc 0) 150) → ⊥
   a_timer_is_left_set of_wait = cc
+
+  -- who has taken the note awaits it no longer
+  it_has_come : LacksNote (object_calls objects) program (Some 0 ∷ Some 1 ∷ Some 3 ∷ [])
+      (In 0 (Until (until 0) (Awaits (only Expired) acquired))) → ⊥
+  it_has_come lacks = false≢true (sym lacks)
+
+  another_came : LacksNote (object_calls objects) program (Some 0 ∷ Some 1 ∷ Some 3 ∷ [])
+      (In 0 (Until (until 0) (Awaits (only Alarm) acquired)))
+  another_came = refl
 
   -- ---- who goes on
 
