@@ -1,11 +1,15 @@
--- Runs of calls at two semaphores and a tag space, computed: a wait at one object that ends by a
--- call at it, and deadlocks across two objects.
+-- Runs of calls at two semaphores, a direction of a pipe and a tag space, computed: waits at one
+-- object that end by a call at it, and deadlocks across two objects.
 use Rattle.std.proofs.Common.{◌≡◌, ◌≢◌, ◌≤◌, ◌<◌, inl, inr, ℕ, zero, suc, true, false, Option, Some}
 use Rattle.std.proofs.Common.{Bool, None, List, [], ◌∷◌, Ok, Result, refl, arith}
 use Rattle.std.proofs.lemmas.Bool.{false≢true}
 use Rattle.kernel_lock.specs.declared.locked.Locked.{Locked}
 use Rattle.kernel_lock.specs.Seats.{limit_of, opening_of}
 use Rattle.sync_base.specs.declared.fault.Fault.{Fault}
+use Rattle.sync_base.specs.declared.mode.Mode.TheVariants.{Message}
+use Rattle.block_queue.specs.QueueObject.{new_kept}
+use Rattle.pipe_dev.specs.declared.answers.ReadAnswer.{ReadAnswer}
+use Rattle.pipe_dev.specs.declared.row.Row.{Row}
 use Rattle.semaphore.specs.declared.acquiring.Semacquired.TheVariants as got
 use Rattle.semaphore.specs.declared.sema.Sema.{Sema}
 use Rattle.semaphore.specs.declared.sema_object.SemaCall.{SemaCall}
@@ -22,6 +26,8 @@ use Rattle.tag_space.specs.declared.calls.GroupReply.TheVariants as group
 use Rattle.tag_space.specs.declared.place.Place.{Place}
 use Rattle.tag_space.specs.declared.space.TagSpace.{TagSpace}
 use Rattle.tag_space.specs.GroupObject as object
+use Rattle.waiting.specs.declared.call.Reply.{Reply as WaitReply}
+use Rattle.waiting.specs.declared.call.Reply.TheVariants as wait
 use Rattle.call_machines.specs.Grain.{coarse_of, moves_of}
 use Rattle.call_machines.specs.GrainEnds.{IsObjectStuck}
 use Rattle.call_machines.specs.Machine.{Next, Outcome}
@@ -33,6 +39,13 @@ use Rattle.call_machines.specs.StrictRuns.{NeverStrictlyStuck}
 use Rattle.call_machines.specs.WaitTables.WaitState.{Asking, Begun, Waits}
 use Rattle.call_machines.proofs.GrainLemmas.{runs_are_moves}
 use Rattle.call_machines.proofs.ScheduleLemmas.{schedules_are_runs}
+use Rattle.pipe_machines.specs.PipeRuns.{Holders, opened as opened_for}
+use Rattle.pipe_machines.specs.PipeRuns as pipe
+use Rattle.pipe_machines.specs.ReadMachine.{FillState}
+use Rattle.pipe_machines.specs.Requests.{PipeReply}
+use Rattle.pipe_machines.specs.Requests.PipeRequest.{Hang, NextPart, Put}
+use Rattle.pipe_machines.specs.Tries.{TryState}
+use Rattle.pipe_machines.specs.WriteMachine.{PutState}
 use Rattle.sema_machines.specs.CallMachines.ReleaseState.{Releasing}
 use Rattle.sema_machines.specs.CallMachines.TryState.{Trying}
 use Rattle.sema_machines.specs.Holds.Hold.{Alone}
@@ -43,18 +56,19 @@ use Rattle.space_machines.specs.MeetMachine.MeetState.{Calls}
 use Rattle.object_machines.specs.ObjectCalls.{ObjectCall, ObjectOut, ObjectReply}
 use Rattle.object_machines.specs.ObjectCalls.{ObjectRequest, ObjectStates, Objects, object_after}
 use Rattle.object_machines.specs.ObjectCalls.{object_answer, object_does, object_goes_on}
-use Rattle.object_machines.specs.ObjectCalls.ObjectCall.{Alone, AtSema, Chooses, InSpace}
+use Rattle.object_machines.specs.ObjectCalls.ObjectCall.{Alone, AtPipe, AtSema, Chooses, InSpace}
 use Rattle.object_machines.specs.ObjectCalls.ObjectOut.{FromChoice, FromSema}
-use Rattle.object_machines.specs.ObjectCalls.ObjectReply.{BySema, BySpace, Chosen}
-use Rattle.object_machines.specs.ObjectCalls.ObjectRequest.{AtChoices, OfSema, OfSpace}
+use Rattle.object_machines.specs.ObjectCalls.ObjectReply.{ByPipe, BySema, BySpace, Chosen}
+use Rattle.object_machines.specs.ObjectCalls.ObjectRequest.{AtChoices, OfPipe, OfSema, OfSpace}
 use Rattle.object_machines.specs.ObjectCalls.{object_calls}
 use Rattle.object_machines.specs.OwnCalls.ChoiceState.{Choosing, HasChosen}
 use Rattle.object_machines.specs.OwnCalls.OwnState.{Done, Draining, Posting}
 use Rattle.sync_base.specs.declared.note.Note.TheVariants.{Interrupt}
 use Rattle.sync_base.specs.NoteSet.{no_notes, only}
 use Rattle.object_machines.specs.ObjectEnds.{is_unworn}
-use Rattle.object_machines.specs.ObjectEnds.{AreApart, AreInOneWorld, BeginsBy, GoesOn, IsSemaHere}
-use Rattle.object_machines.specs.ObjectEnds.{calls_at, goes_on, sema_row, space_row}
+use Rattle.object_machines.specs.ObjectEnds.{AreApart, AreInOneWorld, BeginsBy, GoesOn, IsPipeHere}
+use Rattle.object_machines.specs.ObjectEnds.{IsSemaHere, calls_at, goes_on, pipe_row, sema_row}
+use Rattle.object_machines.specs.ObjectEnds.{space_row}
 
 module _ (lock : Locked SemaState SemaCall SemaReply)
     (space_lock : Locked (List Place) GroupCall GroupReply) (limited : limit_of space_lock ≡ 2)
@@ -79,7 +93,15 @@ module _ (lock : Locked SemaState SemaCall SemaReply)
         numbered = omega arith;
       }
 
-  -- two semaphores with these values, and the space
+  -- a direction for one write, which the second process reads and the first writes, with the Rendez
+  -- 6 and 7
+  abbrev direction : Row
+  direction = record { first = 6; writers = 1; mode = Message; small = omega arith }
+
+  abbrev holders : Holders
+  holders = record { reader = 1; writers = 0 ∷ [] }
+
+  -- two semaphores with these values, the direction, and the space
   abbrev objects_with : ℕ → ℕ → Objects
   objects_with value other =
       record {
@@ -87,10 +109,12 @@ module _ (lock : Locked SemaState SemaCall SemaReply)
             ∷ record { sema = second_sema; value = other }
             ∷ [];
         none = record { sema = first_sema; value = 0 };
+        pipes = record { limit = 1; row = direction; holders = holders } ∷ [];
+        no_pipe = record { limit = 1; row = direction; holders = holders };
         space = space;
         choices = true ∷ false ∷ [];
         procs = 2;
-        rendez = 6;
+        rendez = 8;
       }
 
   abbrev take : ℕ → ℕ → ObjectCall
@@ -106,6 +130,15 @@ module _ (lock : Locked SemaState SemaCall SemaReply)
         offered = record { tag = record { 0 = 7 }; value = value };
         at = Calls Begun;
       })
+
+  abbrev read_in : TryState (FillState (WaitReply ReadAnswer)) → ObjectCall
+  read_in at = AtPipe 0 (pipe.CallState.Reads (0 ∷ []) at)
+
+  abbrev read : ObjectCall
+  read = read_in (TryState.Tries (FillState.Filling 0 None))
+
+  abbrev write : ObjectCall
+  write = AtPipe 0 (pipe.CallState.Writes 0 (97 ∷ []) (TryState.Tries PutState.Putting))
 
   abbrev Stand : Type 0
   Stand = ProgramState (Listed ObjectCall) ObjectCall
@@ -135,9 +168,44 @@ module _ (lock : Locked SemaState SemaCall SemaReply)
 
   -- the first process was woken at the second semaphore, and in the space
   its_levels : (coarse_of in_turn (moves_of in_turn (run_of in_turn its_schedule))).levels
-      ≡ 0 ∷ 0 ∷ 1 ∷ 0 ∷ 1 ∷ 0 ∷ []
+      ≡ 0 ∷ 0 ∷ 1 ∷ 0 ∷ 1 ∷ 0 ∷ 0 ∷ 0 ∷ []
   unfolding passed
   its_levels = refl
+
+  -- the second reads and then gives a unit, and the first writes and then takes the unit
+  abbrev by_a_pipe : Whole
+  by_a_pipe = they_call (objects_with 0 0) (write ∷ take 0 0 ∷ []) (read ∷ give 0 ∷ [])
+
+  abbrev pipe_schedule : List ℕ
+  pipe_schedule =
+      0 ∷ 0 ∷ 0
+      ∷ 1 ∷ 1 ∷ 1 ∷ 1 ∷ 1 ∷ 1 ∷ 1 ∷ 1 ∷ 1 ∷ 1
+      ∷ 0 ∷ 0 ∷ 0 ∷ 0 ∷ 0 ∷ 0 ∷ 0 ∷ 0
+      ∷ 1 ∷ 1 ∷ 1 ∷ []
+
+  both_end_so : (position_of by_a_pipe pipe_schedule).states ≡ Ended ∷ Ended ∷ []
+  unfolding passed
+  both_end_so = refl
+
+  -- the second was woken at the direction, and the first at the semaphore; and the read woke the
+  -- writer
+  pipe_levels : (coarse_of by_a_pipe (moves_of by_a_pipe (run_of by_a_pipe pipe_schedule))).levels
+      ≡ 1 ∷ 0 ∷ 0 ∷ 0 ∷ 0 ∷ 0 ∷ 1 ∷ 1 ∷ []
+  unfolding passed
+  pipe_levels = refl
+
+  -- ---- a deadlock across a semaphore and a direction
+
+  -- the first takes the unit before it writes
+  abbrev takes_first : Whole
+  takes_first = they_call (objects_with 0 0) (take 0 0 ∷ write ∷ []) (read ∷ give 0 ∷ [])
+
+  both_wait : (position_of takes_first (1 ∷ 1 ∷ 1 ∷ 0 ∷ 0 ∷ 0 ∷ [])).states
+      ≡ In (record { at = take 0 0; rest = write ∷ [] }) (AtSema 0 (Takes 0 (Waits 0)))
+      ∷ In (record { at = read; rest = give 0 ∷ [] })
+      (read_in (TryState.Tries (FillState.Told (Ok (wait.Wait 0)))))
+      ∷ []
+  both_wait = refl
 
   -- ---- a deadlock across a semaphore and the space
 
@@ -320,6 +388,7 @@ module _ (lock : Locked SemaState SemaCall SemaReply)
   at_first =
       record {
         semas = units.opening 1 2 0 ∷ units.opening 0 2 0 ∷ [];
+        pipes = opened_for 1 ∷ [];
         space = object.opening 2 0;
         choices = true ∷ false ∷ [];
       }
@@ -337,6 +406,14 @@ module _ (lock : Locked SemaState SemaCall SemaReply)
       ≡ BySpace (group.Wait 0)
   the_space_is_asked = refl
 
+  the_direction_is_asked : object_answer objects at_first (OfPipe 0 (NextPart 0 1))
+      ≡ ByPipe (PipeReply.NotYet 0)
+  the_direction_is_asked = refl
+
+  it_has_room : object_answer objects at_first (OfPipe 0 (Put 0 (97 ∷ [])))
+      ≡ ByPipe (PipeReply.Taken 1)
+  it_has_room = refl
+
   -- and touches no other
   takes_from_the_first : object_after objects at_first (OfSema 0 (Alone (AcquireNow 0)))
       ≡ record at_first { semas = units.opening 0 2 0 ∷ units.opening 0 2 0 ∷ [] }
@@ -346,6 +423,15 @@ module _ (lock : Locked SemaState SemaCall SemaReply)
       (object_after objects at_first (OfSpace (Call 0 (record { 0 = 7 }) 10))).semas
       ≡ at_first.semas
   keeps_the_semaphores = refl
+
+  abbrev is_hung : ObjectStates
+  is_hung =
+      record at_first {
+        pipes = record (opened_for 1) { kept = record (new_kept 1 0) { hung = true } } ∷ [];
+      }
+
+  hangs_the_direction_up : object_after objects at_first (OfPipe 0 (Hang 0)) ≡ is_hung
+  hangs_the_direction_up = refl
 
   -- a call sleeps in the Rendez of its object
   sleeps_at_the_second : object_does objects (AtSema 1 (Takes 1 (Waits 3)))
@@ -359,10 +445,19 @@ module _ (lock : Locked SemaState SemaCall SemaReply)
   })) ≡ Next.Sleep (record { 0 = 5 }) 2
   sleeps_in_the_space = refl
 
+  abbrev waiting_read : ObjectCall
+  waiting_read = read_in (TryState.Tries (FillState.Told (Ok (wait.Wait 0))))
+
+  sleeps_at_the_direction : object_does objects waiting_read ≡ Next.Sleep (record { 0 = 6 }) 0
+  sleeps_at_the_direction = refl
+
   -- and is woken there
   goes_on_when_woken : object_goes_on objects (AtSema 1 (Takes 1 (Waits 3)))
       (Outcome.Slept (Ok tt)) ≡ AtSema 1 (Takes 1 Asking)
   goes_on_when_woken = refl
+
+  reads_again_when_woken : object_goes_on objects waiting_read (Outcome.Slept (Ok tt)) ≡ read
+  reads_again_when_woken = refl
 
   -- what another object replied is nothing to it
   hears_its_own_alone : object_goes_on objects (AtSema 0 (Tries 0 Trying))
@@ -372,6 +467,9 @@ module _ (lock : Locked SemaState SemaCall SemaReply)
   so_does_one_in_the_space : object_goes_on objects (meet 0 10)
       (Outcome.Replied (BySema (replied_alone reply.Granted))) ≡ meet 0 10
   so_does_one_in_the_space = refl
+
+  so_does_a_write : object_goes_on objects write (Outcome.Replied (BySpace group.Gone)) ≡ write
+  so_does_a_write = refl
 
   -- who goes on is told by its own object
   abbrev one_was_granted : ObjectStates
@@ -391,7 +489,13 @@ module _ (lock : Locked SemaState SemaCall SemaReply)
   the_space_does_not : goes_on objects one_was_granted (meet 1 20) ≡ false
   the_space_does_not = refl
 
-  -- a semaphore that is not there is not called
+  the_direction_lets_no_read : goes_on objects at_first waiting_read ≡ false
+  the_direction_lets_no_read = refl
+
+  but_it_does_when_hung_up : goes_on objects is_hung waiting_read ≡ true
+  but_it_does_when_hung_up = refl
+
+  -- what is not there is not called
   no_third : BeginsBy objects 0 (take 2 0) → ⊥
   no_third begins = let low : 2 < 2 = begins.0 in absurd (omega arith)
 
@@ -401,6 +505,18 @@ module _ (lock : Locked SemaState SemaCall SemaReply)
   by_another_member : BeginsBy objects 0 (meet 1 20) → ⊥
   by_another_member begins = let member = begins.member_is in cc
 
+  abbrev write_elsewhere : ObjectCall
+  write_elsewhere = AtPipe 1 (pipe.CallState.Writes 0 [] (TryState.Tries PutState.Putting))
+
+  no_second_direction : BeginsBy objects 0 write_elsewhere → ⊥
+  no_second_direction begins = let low : 1 < 1 = begins.0 in absurd (omega arith)
+
+  by_another_end : BeginsBy objects 0 read → ⊥
+  by_another_end begins = let end : ◌≡◌ {A = ℕ} 0 1 = begins.1.0 in cc
+
+  by_its_own_end : BeginsBy objects 0 write
+  by_its_own_end = (omega arith, (refl, refl))
+
   -- these are in one world
   are_in_one_world : AreInOneWorld objects
   are_in_one_world =
@@ -409,8 +525,35 @@ module _ (lock : Locked SemaState SemaCall SemaReply)
         room = record { members = omega arith; row = omega arith };
         semas_apart = apart;
         space_apart = before;
+        pipes = pipe_here;
+        pipes_apart = alone;
+        pipe_sema_apart = behind;
+        pipe_space_apart = last;
       }
     where
+      pipe_here : (number : ℕ) → number < 1 → IsPipeHere objects number
+      pipe_here zero low = record { ends = omega arith; there = omega arith }
+      pipe_here (suc number) low = absurd (let one : suc number < 1 = low in omega arith)
+
+      alone : (number other : ℕ) → number < 1 → other < 1 → number ≢ other
+          → AreApart (pipe_row objects number) (pipe_row objects other)
+      alone number other low low_too differs =
+          absurd (differs (let one : number < 1 = low in
+          let two : other < 1 = low_too in omega (arith, one, two)))
+
+      behind : (number sema : ℕ) → number < 1 → sema < 2
+          → AreApart (pipe_row objects number) (sema_row objects sema)
+      behind zero zero low low_too = inr (omega arith)
+      behind zero (suc zero) low low_too = inr (omega arith)
+      behind zero (suc (suc sema)) low low_too =
+          absurd (let two : suc (suc sema) < 2 = low_too in omega arith)
+      behind (suc number) sema low low_too =
+          absurd (let one : suc number < 1 = low in omega arith)
+
+      last : (number : ℕ) → number < 1 → AreApart (pipe_row objects number) (space_row objects)
+      last zero low = inr (omega arith)
+      last (suc number) low = absurd (let one : suc number < 1 = low in omega arith)
+
       here : (number : ℕ) → number < 2 → IsSemaHere objects number
       here zero low =
           record { fits = record { low = omega arith; row = omega arith }; procs_are = refl }
@@ -450,6 +593,12 @@ meetings_are_worn = refl
 a_meeting_wears_nothing : is_unworn (OfSpace (Call 0 (record { 0 = 7 }) 10))
     (BySpace (group.Met 20 1 3)) ≡ true
 a_meeting_wears_nothing = refl
+
+numbers_are_worn : is_unworn (OfPipe 0 (Put 0 [])) (ByPipe PipeReply.Worn) ≡ false
+numbers_are_worn = refl
+
+a_full_pipe_wears_nothing : is_unworn (OfPipe 0 (Put 0 [])) (ByPipe (PipeReply.Full 3)) ≡ true
+a_full_pipe_wears_nothing = refl
 
 a_choice_wears_nothing : is_unworn AtChoices (Chosen true) ≡ true
 a_choice_wears_nothing = refl

@@ -9,12 +9,12 @@ ghost use Rattle.object_machines.specs.ObjectEnds.{
 
 use semaphore::laws::{states_are_sound, who_is_granted_is_released};
 
-/// Where no process goes on, nobody waits who was granted a unit or whose call was met; and who is
-/// woken before that asks in vain. So no run of the calls deadlocks, if in each run at the grain of
-/// calls that comes to where each process has ended or waits without either all have ended. Runs
-/// need not be looked at in which a sleep is refused, or a wait ends well before its object lets
-/// it. The same holds of the runs in which nothing is worn out, and where processes may rest at
-/// some places.
+/// Where no process goes on, nobody waits who was granted a unit, whose call was met, or whom its
+/// direction would let go on; and who is woken before that asks in vain. So no run of the calls
+/// deadlocks, if in each run at the grain of calls that comes to where each process has ended, or
+/// waits and has to by its object, all have ended. Runs need not be looked at in which a sleep is
+/// refused, or a wait ends well before its object lets it. The same holds of the runs in which
+/// nothing is worn out, and where processes may rest at some places.
 pub fn objects_end<P>()
     ensures due { WakeupsAreDueAll P }
     ensures vain { WaitsAskInVain P }

@@ -7,6 +7,7 @@ use Rattle.std.specs.Prelude.{slice_index, slice_index_or, slice_set}
 use Rattle.std.proofs.lemmas.Bool.Decides.{eqb_tells}
 use Rattle.sleep_core.proofs.CoreRuns.{get_or-replicate_same}
 use Rattle.std.proofs.lemmas.List.{length-replicate, length-set}
+use Rattle.std.proofs.lemmas.Option.{slice_get_within}
 use Rattle.sync_base.specs.declared.ids.RendezId.{RendezId}
 use Rattle.sync_base.specs.declared.limits.TheConstants.{TOP_LEVEL}
 use Rattle.sync_base.specs.declared.note.NoteSet.{NoteSet}
@@ -31,7 +32,7 @@ use Rattle.pipe_machines.specs.BlockMachine.{BlockState}
 use Rattle.pipe_machines.specs.PipeEnds.{LeavesUnworn, PipeEndsHold, PipeRestsHold, WaitsAskInVain}
 use Rattle.pipe_machines.specs.PipeEnds.{WakeupsOfPipesAreDue, goes_on}
 use Rattle.pipe_machines.specs.PipeRuns.{BeginsBy, CallOut, CallState, DirectionState, HasRoom}
-use Rattle.pipe_machines.specs.PipeRuns.{call_does, call_goes_on, idle, pipe_calls}
+use Rattle.pipe_machines.specs.PipeRuns.{Holders, Holds, call_does, call_goes_on, idle, pipe_calls}
 use Rattle.pipe_machines.specs.PipeRuns.CallState.{Blocks, Hangs, Reads, TriesToRead, Writes}
 use Rattle.pipe_machines.specs.ReadMachine.{FillState}
 use Rattle.pipe_machines.specs.Requests.{PipeReply, PipeRequest}
@@ -107,38 +108,77 @@ module _ (limit : ℕ) (was now : DirectionState)
   rightly_later (Blocks (TryState.Fails why)) keeps rightly = tt
   rightly_later (Hangs seat at) keeps rightly = tt
 
--- the reader's calls are those of process 0
-reads_by_first : (pid : ℕ) (call : CallState) → IsBy pid call → IsReading call → pid ≡ 0
-reads_by_first pid (Writes writer bytes at) by reads = absurd reads
-reads_by_first pid (Reads buffer at) by reads = by
-reads_by_first pid (TriesToRead buffer at) by reads = by
-reads_by_first pid (Blocks at) by reads = by
-reads_by_first pid (Hangs seat at) by reads = absurd reads
+-- the reader's calls are those of one process
+reads_by_one : (holders : Holders) (pid : ℕ) (call : CallState) → IsBy holders pid call
+    → IsReading call → pid ≡ holders.reader
+reads_by_one holders pid (Writes writer bytes at) by reads = absurd reads
+reads_by_one holders pid (Reads buffer at) by reads = by
+reads_by_one holders pid (TriesToRead buffer at) by reads = by
+reads_by_one holders pid (Blocks at) by reads = by
+reads_by_one holders pid (Hangs seat at) by reads = absurd reads
 
 -- a call that begins is by its process, and waits for nothing
-begins_by : (pid : ℕ) (call : CallState) → BeginsBy pid call → IsBy pid call
-begins_by pid (Writes writer bytes at) begins = begins.0
-begins_by pid (Reads buffer at) begins = begins.0
-begins_by pid (TriesToRead buffer at) begins = begins.0
-begins_by pid (Blocks at) begins = begins.0
-begins_by pid (Hangs seat at) begins = tt
+begins_by : (holders : Holders) (pid : ℕ) (call : CallState) → BeginsBy holders pid call
+    → IsBy holders pid call
+begins_by holders pid (Writes writer bytes at) begins = begins.0
+begins_by holders pid (Reads buffer at) begins = begins.0
+begins_by holders pid (TriesToRead buffer at) begins = begins.0
+begins_by holders pid (Blocks at) begins = begins.0
+begins_by holders pid (Hangs seat at) begins = tt
 
-begins_rightly : (limit : ℕ) (d : DirectionState) (pid : ℕ) (call : CallState)
-    → BeginsBy pid call → WaitsRightly limit d call
-begins_rightly limit d pid (Writes writer bytes at) begins =
+begins_rightly : (limit : ℕ) (d : DirectionState) (holders : Holders) (pid : ℕ) (call : CallState)
+    → BeginsBy holders pid call → WaitsRightly limit d call
+begins_rightly limit d holders pid (Writes writer bytes at) begins =
     subst (λ (s : TryState PutState).
     WaitsRightly limit d (Writes writer bytes s)) (sym begins.1) tt
-begins_rightly limit d pid (Reads buffer at) begins =
+begins_rightly limit d holders pid (Reads buffer at) begins =
     subst (λ (s : TryState (FillState (WaitReply ReadAnswer))).
     WaitsRightly limit d (Reads buffer s)) (sym begins.2) tt
-begins_rightly limit d pid (TriesToRead buffer at) begins =
+begins_rightly limit d holders pid (TriesToRead buffer at) begins =
     subst (λ (s : FillState TryAnswer). WaitsRightly limit d (TriesToRead buffer s))
     (sym begins.2) tt
-begins_rightly limit d pid (Blocks at) begins =
+begins_rightly limit d holders pid (Blocks at) begins =
     subst (λ (s : TryState BlockState). WaitsRightly limit d (Blocks s)) (sym begins.1) tt
-begins_rightly limit d pid (Hangs seat at) begins = tt
+begins_rightly limit d holders pid (Hangs seat at) begins = tt
 
-module _ (limit : ℕ) (row : Row) (rendez procs : ℕ) (room : HasRoom row rendez procs) where
+-- ---- the seats of a process
+
+-- a process sleeps at the place of one of its seats
+pub record Own (row : Row) (holders : Holders) (pid : ℕ) (there : RendezId) : Type 0 where
+  -- the number of the seat
+  pub seat : ℕ
+  -- the process has that seat
+  pub holds : Holds holders pid seat
+  -- this is its place in the row
+  pub place : there.0 ≡ row.first + seat
+
+-- each seat has a place in the row
+pub seat_there : (row : Row) (holders : Holders) (rendez : ℕ) → HasRoom row holders rendez
+    → (pid seat : ℕ) → Holds holders pid seat → seat ≤ row.writers
+seat_there row holders rendez room pid zero holds = omega arith
+seat_there row holders rendez room pid (suc writer) holds =
+    let low = slice_get_within holders.writers writer pid holds in
+    let many = room.ends in
+    omega (arith, low, many)
+
+-- and is of one process
+one_holds : (holders : Holders) (seat pid other : ℕ) → Holds holders pid seat
+    → Holds holders other seat → pid ≡ other
+one_holds holders zero pid other one two = one ∙ sym two
+one_holds holders (suc writer) pid other one two =
+    let same : Some pid ≡ Some other = sym one ∙ two in cc
+
+-- so no two processes sleep at one
+pub apart : (row : Row) (holders : Holders) (pid other : ℕ) (there : RendezId)
+    → Own row holders pid there → Own row holders other there → pid ≡ other
+apart row holders pid other there one two =
+    let place = one.place in
+    let place_too = two.place in
+    one_holds holders one.seat pid other one.holds
+    (subst (Holds holders other) (omega (arith, place, place_too)) two.holds)
+
+module _ (limit : ℕ) (row : Row) (holders : Holders) (rendez procs : ℕ)
+    (room : HasRoom row holders rendez) where
   abbrev system : System CallState PipeRequest PipeReply CallOut DirectionState
   system = pipe_calls limit row rendez procs
 
@@ -167,7 +207,7 @@ module _ (limit : ℕ) (row : Row) (rendez procs : ℕ) (room : HasRoom row rend
     -- what the direction keeps fits
     fits : Fits limit at.object.kept
     -- each process calls by its own end, and waits rightly
-    own : (pid : ℕ) → pid < procs → IsBy pid (at_of system at pid)
+    own : (pid : ℕ) → pid < procs → IsBy holders pid (at_of system at pid)
     rightly : (pid : ℕ) → pid < procs → WaitsRightly limit at.object (at_of system at pid)
     -- at each place of the row the level that is due is there, or is to come
     woken : (i : ℕ) → i ≤ row.writers → IsWoken at i
@@ -182,7 +222,7 @@ module _ (limit : ℕ) (row : Row) (rendez procs : ℕ) (room : HasRoom row rend
         states = as_many;
         levels = length-replicate rendez 0;
         fits = opened_fits limit;
-        own = λ pid low. subst (IsBy pid) (sym (get_or-replicate_same procs pid idle)) tt;
+        own = λ pid low. subst (IsBy holders pid) (sym (get_or-replicate_same procs pid idle)) tt;
         rightly = λ pid low. subst (WaitsRightly limit (coarse_of system []).object)
             (sym (get_or-replicate_same procs pid idle)) tt;
         woken = λ i most. let none = first_due i in inl (omega (arith, none));
@@ -250,8 +290,8 @@ module _ (limit : ℕ) (row : Row) (rendez procs : ℕ) (room : HasRoom row rend
             × (object_now.rest ≡ at.object.rest)
         by (inl kept) = kept
         by (inr mine) =
-            absurd (differ (reads_by_first other _ (due.own other there) reads
-            ∙ sym (reads_by_first move.by _ (due.own move.by low) mine)))
+            absurd (differ (reads_by_one holders other _ (due.own other there) reads
+            ∙ sym (reads_by_one holders move.by _ (due.own move.by low) mine)))
 
     -- at each place the level is there, or is to come
     woken_now : (i : ℕ) → i ≤ row.writers → IsWoken (moved system at move) i
@@ -264,7 +304,7 @@ module _ (limit : ℕ) (row : Row) (rendez procs : ℕ) (room : HasRoom row rend
             ⊎ ((eqb some.pid move.by ≡ false) × (some.pid ≢ move.by))
             → IsWoken (moved system at move) i
         of is_same some (inl mine) =
-            still (owes_on limit row rendez procs room at.levels due.levels at.object due.fits
+            still (owes_on limit row rendez procs room.there at.levels due.levels at.object due.fits
             (notes_of system at move.by) i most old move.grain (due.rightly move.by low) came
             is_same
             (subst (λ (p : ℕ). IsToWake i (level_due at.object.kept i)
@@ -311,11 +351,11 @@ module _ (limit : ℕ) (row : Row) (rendez procs : ℕ) (room : HasRoom row rend
             })
 
     -- an end of the call stays its process's
-    own_still : IsBy move.by new
+    own_still : IsBy holders move.by new
     own_still = by old (due.own move.by low)
       where
-        by : (call : CallState) → IsBy move.by call
-            → IsBy move.by (call_goes_on limit row call (outcome_by move.grain))
+        by : (call : CallState) → IsBy holders move.by call
+            → IsBy holders move.by (call_goes_on limit row call (outcome_by move.grain))
         by (Writes writer bytes s) own = own
         by (Reads buffer s) own = own
         by (TriesToRead buffer s) own = own
@@ -328,8 +368,8 @@ module _ (limit : ℕ) (row : Row) (rendez procs : ℕ) (room : HasRoom row rend
           states = length-set at.states move.by new ∙ due.states;
           levels = levels_stay at.levels (call_does limit row old) move.grain ∙ due.levels;
           fits = well.fits_now;
-          own = λ pid within. all_now (λ p call. p < procs → IsBy p call) (λ there. own_still)
-              (λ other differ there. due.own other there) pid within;
+          own = λ pid within. all_now (λ p call. p < procs → IsBy holders p call)
+              (λ there. own_still) (λ other differ there. due.own other there) pid within;
           rightly = λ pid within.
               all_now (λ p call. p < procs → WaitsRightly limit object_now call)
               (λ there. well.rightly)
@@ -358,7 +398,7 @@ module _ (limit : ℕ) (row : Row) (rendez procs : ℕ) (room : HasRoom row rend
 
   -- a process begins its next call
   begins_next : (at : Coarse system) (pid : ℕ) (next : CallState) → Due at → pid < procs
-      → HasEnded (call_does limit row (at_of system at pid)) → BeginsBy pid next
+      → HasEnded (call_does limit row (at_of system at pid)) → BeginsBy holders pid next
       → Due (begun system at pid next)
   begins_next at pid next due low ended begins =
       record {
@@ -366,11 +406,12 @@ module _ (limit : ℕ) (row : Row) (rendez procs : ℕ) (room : HasRoom row rend
         levels = due.levels;
         fits = due.fits;
         own = λ other within. each at.states pid (long_at at pid due low) next idle
-            (λ p call. p < procs → IsBy p call) (λ there. begins_by pid next begins)
+            (λ p call. p < procs → IsBy holders p call)
+            (λ there. begins_by holders pid next begins)
             (λ other differ there. due.own other there) other within;
         rightly = λ other within. each at.states pid (long_at at pid due low) next idle
             (λ p call. p < procs → WaitsRightly limit at.object call)
-            (λ there. begins_rightly limit at.object pid next begins)
+            (λ there. begins_rightly limit at.object holders pid next begins)
             (λ other differ there. due.rightly other there) other within;
         woken = λ i most. by i most (due.woken i most);
       }
@@ -401,9 +442,9 @@ module _ (limit : ℕ) (row : Row) (rendez procs : ℕ) (room : HasRoom row rend
 
   sleeps_so : (at : Coarse system) → Due at → (pid : ℕ) → pid < procs → (there : RendezId)
       (number : ℕ) → call_does limit row (at_of system at pid) ≡ Next.Sleep there number
-      → SleepsRightly limit row at.object pid there number (at_of system at pid)
+      → SleepsRightly limit row at.object holders pid there number (at_of system at pid)
   sleeps_so at due pid low there number does =
-      sleeps_rightly limit row at.object due.fits pid there number (at_of system at pid)
+      sleeps_rightly limit row at.object due.fits holders pid there number (at_of system at pid)
       (due.own pid low) (due.rightly pid low) does
 
   module _ (at : Coarse system) (due : Due at) (stuck : IsCoarseStuck system at) where
@@ -432,28 +473,25 @@ module _ (limit : ℕ) (row : Row) (rendez procs : ℕ) (room : HasRoom row rend
         → goes_on at.object (at_of system at pid) ≡ true → ⊥
     none_waits pid low on goes =
         let sleeps = sleeps_so at due pid low on.rendez on.number on.does in
-        let many = room.ends in
-        let woken = all_woken pid (omega (arith, low, many)) in
+        let woken = all_woken sleeps.seat (seat_there row holders rendez room pid
+        sleeps.seat sleeps.holds) in
         let less = sleeps.below goes in
-        let below : slice_index at.levels (row.first + pid) ≤ on.number =
+        let below : slice_index at.levels (row.first + sleeps.seat) ≤ on.number =
         subst (λ (p : ℕ). slice_index at.levels p ≤ on.number) sleeps.its_own on.low in
         omega (arith, woken, less, below)
 
-  -- each process sleeps at its own place of the row
-  abbrev pub Own : ℕ → RendezId → Type 0
-  Own pid there = there.0 ≡ row.first + pid
-
+  -- and each sleeps at a place of its own, in the world
   in_row : (at : Coarse system) (pid : ℕ) (there : RendezId) (number : ℕ) → Due at
       → pid < procs → call_does limit row (at_of system at pid) ≡ Next.Sleep there number
-      → Own pid there × (there.0 < rendez) × (number ≢ TOP_LEVEL)
+      → Own row holders pid there × (there.0 < rendez) × (number ≢ TOP_LEVEL)
   in_row at pid there number due low does =
       let sleeps = sleeps_so at due pid low there number does in
       let row_there = room.there in
-      let many = room.ends in
+      let few = seat_there row holders rendez room pid sleeps.seat sleeps.holds in
       let place = sleeps.its_own in
       let less = sleeps.low in (
-        sleeps.its_own,
-        omega (arith, place, row_there, many, low),
+        record { seat = sleeps.seat; holds = sleeps.holds; place = sleeps.its_own },
+        omega (arith, place, row_there, few),
         λ top. omega (arith, less, top),
       )
 
@@ -461,7 +499,8 @@ module _ (limit : ℕ) (row : Row) (rendez procs : ℕ) (room : HasRoom row rend
   few pid = subst (λ (n : ℕ). pid < n) as_many
 
   -- these hold whenever the calls begin
-  pub invariant : Invariant system (λ d call. goes_on d call ≡ true) BeginsBy Own (λ at. Due at)
+  pub invariant : Invariant system (λ d call. goes_on d call ≡ true) (BeginsBy holders)
+      (Own row holders) (λ at. Due at)
   invariant =
       record {
         rest = λ pid. subst (λ (call : CallState). HasEnded (call_does limit row call))
@@ -478,38 +517,31 @@ module _ (limit : ℕ) (row : Row) (rendez procs : ℕ) (room : HasRoom row rend
             asks_again limit row rendez procs at.object (at_of system at pid) there number does;
       }
 
-  -- and no two of them sleep at one
-  pub apart : (pid other : ℕ) (there : RendezId) → Own pid there → Own other there → pid ≡ other
-  apart pid other there one two = omega (arith, one, two)
-
 -- by what each move leaves
 pub wakeups_are_due : (At : Type 0) → WakeupsOfPipesAreDue At
-wakeups_are_due At limit row rendez program starts are =
-    programs.due (pipe_calls limit row rendez (length starts)) program starts goes_on BeginsBy _ _
-    (invariant limit row rendez (length starts) are.room)
+wakeups_are_due At limit row holders rendez program starts are =
+    programs.due (pipe_calls limit row rendez (length starts)) program starts goes_on
+    (BeginsBy holders) _ _ (invariant limit row holders rendez (length starts) are.room)
     (sym (length-replicate (length starts) idle)) are.begin
 
 -- by what a call is told that would have to wait
 pub waits_ask_in_vain : (At : Type 0) → WaitsAskInVain At
-waits_ask_in_vain At limit row rendez program starts are =
-    programs.again (pipe_calls limit row rendez (length starts)) program starts goes_on BeginsBy _ _
-    (invariant limit row rendez (length starts) are.room)
+waits_ask_in_vain At limit row holders rendez program starts are =
+    programs.again (pipe_calls limit row rendez (length starts)) program starts goes_on
+    (BeginsBy holders) _ _ (invariant limit row holders rendez (length starts) are.room)
     (sym (length-replicate (length starts) idle)) are.begin
 
 -- by the laws of all machines
 pub pipe_ends_hold : (At : Type 0) → PipeEndsHold At
-pipe_ends_hold At limit row rendez program starts are =
+pipe_ends_hold At limit row holders rendez program starts are =
     programs.programs_end (pipe_calls limit row rendez (length starts)) program starts goes_on
-    BeginsBy _ _
-    (invariant limit row rendez (length starts) are.room)
-    (sym (length-replicate (length starts) idle)) are.begin
-    (apart limit row rendez (length starts) are.room)
+    (BeginsBy holders) _ _ (invariant limit row holders rendez (length starts) are.room)
+    (sym (length-replicate (length starts) idle)) are.begin (apart row holders)
 
 -- and so of the runs in which no number is worn out
 pub pipe_rests_hold : (At : Type 0) → PipeRestsHold At
-pipe_rests_hold At limit row rendez program starts served are =
+pipe_rests_hold At limit row holders rendez program starts served are =
     programs.such_programs_rest (pipe_calls limit row rendez (length starts)) program starts goes_on
-    BeginsBy _ _
-    (invariant limit row rendez (length starts) are.room)
+    (BeginsBy holders) _ _ (invariant limit row holders rendez (length starts) are.room)
     (sym (length-replicate (length starts) idle)) are.begin
-    LeavesUnworn served (apart limit row rendez (length starts) are.room)
+    LeavesUnworn served (apart row holders)

@@ -23,7 +23,7 @@ use Rattle.call_machines.specs.Machine.{Next, next_with}
 use Rattle.call_machines.proofs.CoarseLemmas.{ComesOf}
 use Rattle.pipe_machines.specs.BlockMachine.{BlockState, block_try}
 use Rattle.pipe_machines.specs.HangMachine.{HangState}
-use Rattle.pipe_machines.specs.PipeRuns.{CallOut, CallState, DirectionState, HasRoom, call_does}
+use Rattle.pipe_machines.specs.PipeRuns.{CallOut, CallState, DirectionState, call_does}
 use Rattle.pipe_machines.specs.PipeRuns.{direction_told}
 use Rattle.pipe_machines.specs.PipeRuns.{pipe_calls, same}
 use Rattle.pipe_machines.specs.PipeRuns.CallOut.{HasRead, HasTried, HungUp}
@@ -38,7 +38,8 @@ use Rattle.pipe_machines.proofs.DirectionLemmas.ReadCase.{IsEnd, IsNotYet, OfRes
 use Rattle.pipe_machines.proofs.MoveLemmas.{IsFillToWake, IsToWake, WaitsRightly, gone, to}
 use Rattle.pipe_machines.proofs.WakingLemmas.{is_not_below}
 
-module _ (limit : ℕ) (row : Row) (rendez procs : ℕ) (room : HasRoom row rendez procs)
+module _ (limit : ℕ) (row : Row) (rendez procs : ℕ)
+    (in_world : row.first + 1 + row.writers ≤ rendez)
     (levels : List ℕ) (sized : length levels ≡ rendez) where
   -- a wakeup leaves its level
   level_left : (place at level number : ℕ) → place ≡ at → place < rendez → level ≤ number
@@ -65,13 +66,10 @@ module _ (limit : ℕ) (row : Row) (rendez procs : ℕ) (room : HasRoom row rend
       at_or_above : (i woken : ℕ) → woken < i → (i ≡ suc woken) ⊎ (suc woken < i)
       at_or_above i woken low = grind arith
 
-      there : row.first + 1 + row.writers ≤ rendez
-      there = room.there
-
       by : (i ≡ suc woken) ⊎ (suc woken < i) → WokenOrOwed i level woken number
       by (inl is) =
           inl (level_left (row.first + 1 + woken) (row.first + i) level number
-          (omega (arith, is)) (let t = there in omega (arith, t, most, low)) enough)
+          (omega (arith, is)) (omega (arith, in_world, most, low)) enough)
       by (inr more) = inr (more, enough)
 
   module _ (d : DirectionState) (fits : Fits limit d.kept) (notes : NoteSet) where
@@ -173,9 +171,8 @@ module _ (limit : ℕ) (row : Row) (rendez procs : ℕ) (room : HasRoom row rend
           → level ≤ slice_index (slice_set levels row.first
           (max (slice_index levels row.first) number)) (row.first + i)
       reader_woken number is enough =
-          let there = room.there in
           level_left row.first (row.first + i) level number (omega (arith, is))
-          (omega (arith, there)) enough
+          (omega (arith, in_world)) enough
 
       -- a part that the reader read after one that was taken out
       part_owes : {Out : Type 0} (told_of : ReadOutcome → Out) (buffer : List ℕ) (count number : ℕ)

@@ -20,9 +20,8 @@ use Rattle.call_machines.specs.Machine.{Next, next_with}
 use Rattle.pipe_machines.specs.BlockMachine.{BlockState}
 use Rattle.pipe_machines.specs.HangMachine.{HangState}
 use Rattle.pipe_machines.specs.PipeEnds.{goes_on, is_there}
-use Rattle.pipe_machines.specs.PipeRuns.{CallOut, CallState, DirectionState, call_does}
-use Rattle.pipe_machines.specs.PipeRuns.{is_in}
-use Rattle.pipe_machines.specs.PipeRuns.{part_told, same, taken_told}
+use Rattle.pipe_machines.specs.PipeRuns.{CallOut, CallState, DirectionState, Holders, Holds}
+use Rattle.pipe_machines.specs.PipeRuns.{call_does, is_in, part_told, same, taken_told}
 use Rattle.pipe_machines.specs.PipeRuns.CallOut.{HasRead, HasTried, HungUp}
 use Rattle.pipe_machines.specs.PipeRuns.CallState.{Blocks, Hangs, Reads, TriesToRead, Writes}
 use Rattle.pipe_machines.specs.ReadMachine.{FillState, fill_does}
@@ -35,12 +34,12 @@ use Rattle.pipe_machines.proofs.MoveLemmas.{IsRead, IsToWake, WaitsRightly}
 use Rattle.pipe_machines.proofs.WakingLemmas.{is_not_below}
 
 -- a call is by the reader's process, or by that of its writer; a hangup is by anybody
-abbrev pub IsBy : ℕ → CallState → Type 0
-IsBy pid (Writes writer bytes at) = pid ≡ writer + 1
-IsBy pid (Reads buffer at) = pid ≡ 0
-IsBy pid (TriesToRead buffer at) = pid ≡ 0
-IsBy pid (Blocks at) = pid ≡ 0
-IsBy pid (Hangs seat at) = ⊤
+abbrev pub IsBy : Holders → ℕ → CallState → Type 0
+IsBy holders pid (Writes writer bytes at) = Holds holders pid (suc writer)
+IsBy holders pid (Reads buffer at) = Holds holders pid 0
+IsBy holders pid (TriesToRead buffer at) = Holds holders pid 0
+IsBy holders pid (Blocks at) = Holds holders pid 0
+IsBy holders pid (Hangs seat at) = ⊤
 
 -- whether there is a write does not depend on the room
 pub same_room : (d : DirectionState) (one other : ℕ)
@@ -173,50 +172,56 @@ module _ (limit : ℕ) (row : Row) where
   -- ---- who sleeps
 
   -- a call that sleeps does so where it can be woken
-  pub record SleepsRightly (d : DirectionState) (pid : ℕ) (there : RendezId) (number : ℕ)
-      (call : CallState) : Type 0 where
-    -- in the Rendez of its process
-    pub its_own : there.0 ≡ row.first + pid
+  pub record SleepsRightly (d : DirectionState) (holders : Holders) (pid : ℕ) (there : RendezId)
+      (number : ℕ) (call : CallState) : Type 0 where
+    -- by the seat with this number
+    pub seat : ℕ
+    -- which its process has
+    pub holds : Holds holders pid seat
+    -- in the Rendez of that seat
+    pub its_own : there.0 ≡ row.first + seat
     -- below the level that is due there, if the direction would let it go on
-    pub below : goes_on d call ≡ true → number < level_due d.kept pid
+    pub below : goes_on d call ≡ true → number < level_due d.kept seat
     -- and below the greatest level
     pub low : number < TOP_LEVEL
 
   -- each call that sleeps
-  pub sleeps_rightly : (d : DirectionState) → Fits limit d.kept → (pid : ℕ) (there : RendezId)
-      (number : ℕ) (call : CallState) → IsBy pid call → WaitsRightly limit d call
-      → does call ≡ Next.Sleep there number → SleepsRightly d pid there number call
-  sleeps_rightly d fits pid there number
+  pub sleeps_rightly : (d : DirectionState) → Fits limit d.kept → (holders : Holders) (pid : ℕ)
+      (there : RendezId) (number : ℕ) (call : CallState) → IsBy holders pid call
+      → WaitsRightly limit d call → does call ≡ Next.Sleep there number
+      → SleepsRightly d holders pid there number call
+  sleeps_rightly d fits holders pid there number
       (Writes writer bytes (TryState.Tries (PutState.Told (reply.Wait n)))) by rightly is =
       let number_is : n ≡ number = cc in
       let there_is : writer_rendez row writer ≡ there = cc in
       let place = ap (λ (r : RendezId). r.0) there_is in
-      let pid_is : pid ≡ suc writer = omega (arith, by) in
       let low = rightly.low in
       let less = rightly.less in
       record {
-        its_own = omega (arith, place, by);
-        below = λ goes. subst (λ (p : ℕ). number < level_due d.kept p) (sym pid_is)
-            (subst (λ (m : ℕ). m < level_due d.kept (suc writer)) number_is
-            (writer_below limit d.kept bytes n writer fits low less goes));
+        seat = suc writer;
+        holds = by;
+        its_own = omega (arith, place);
+        below = λ goes. subst (λ (m : ℕ). m < level_due d.kept (suc writer)) number_is
+            (writer_below limit d.kept bytes n writer fits low less goes);
         low = omega (arith, number_is, less);
       }
-  sleeps_rightly d fits pid there number (Reads buffer (TryState.Tries at)) by rightly is =
+  sleeps_rightly d fits holders pid there number (Reads buffer (TryState.Tries at)) by rightly is =
       let sleeps = fill_sleeps buffer at there number is in
       let knows = fill_reads d buffer at number rightly sleeps.told in
       let place = ap (λ (r : RendezId). r.0) sleeps.its_own in
       let given = fits.given in
       let same_number = knows.number_is in
       record {
-        its_own = omega (arith, place, by);
-        below = λ goes. subst (λ (p : ℕ). number < level_due d.kept p) (sym by)
-            (subst (λ (m : ℕ). m < level_due d.kept 0) (sym knows.number_is)
-            (reader_below limit d (length buffer) fits knows.none goes));
+        seat = 0;
+        holds = by;
+        its_own = omega (arith, place);
+        below = λ goes. subst (λ (m : ℕ). m < level_due d.kept 0) (sym knows.number_is)
+            (reader_below limit d (length buffer) fits knows.none goes);
         low = omega (arith, given, same_number);
       }
-  sleeps_rightly d fits pid there number (TriesToRead buffer at) by rightly is =
+  sleeps_rightly d fits holders pid there number (TriesToRead buffer at) by rightly is =
       absurd (tries_awake buffer at there number is)
-  sleeps_rightly d fits pid there number
+  sleeps_rightly d fits holders pid there number
       (Blocks (TryState.Tries (BlockState.Told (reply.Wait n)))) by rightly is =
       let number_is : n ≡ number = cc in
       let there_is : reader_rendez row ≡ there = cc in
@@ -224,13 +229,15 @@ module _ (limit : ℕ) (row : Row) where
       let given = fits.given in
       let same_number = rightly.number_is in
       record {
-        its_own = omega (arith, place, by);
-        below = λ goes. subst (λ (p : ℕ). number < level_due d.kept p) (sym by)
-            (subst (λ (m : ℕ). m < level_due d.kept 0) (sym rightly.number_is ∙ number_is)
-            (reader_below limit d 0 fits rightly.none goes));
+        seat = 0;
+        holds = by;
+        its_own = omega (arith, place);
+        below = λ goes.
+            subst (λ (m : ℕ). m < level_due d.kept 0) (sym rightly.number_is ∙ number_is)
+            (reader_below limit d 0 fits rightly.none goes);
         low = omega (arith, given, same_number, number_is);
       }
-  sleeps_rightly d fits pid there number
+  sleeps_rightly d fits holders pid there number
       (Blocks (TryState.Tries (BlockState.WakingWriters woken waked count))) by rightly is =
       let so = sleeps_by woken waked number (reply.Done (read.Got count)) there
       (nat_lt woken row.writers) is in
@@ -240,25 +247,25 @@ module _ (limit : ℕ) (row : Row) where
           ≡ Next.Over (Ok (reply.Wait number)) → ⊥
       never true is = cc
       never false is = cc
-  sleeps_rightly d fits pid there number (Hangs seat (HangState.WakingWriters woken)) by rightly
-      is = absurd (never (nat_lt woken row.writers) is)
+  sleeps_rightly d fits holders pid there number (Hangs seat (HangState.WakingWriters woken)) by
+      rightly is = absurd (never (nat_lt woken row.writers) is)
     where
       never : (b : Bool) → next_with {Out = Unit {0}} same (λ unit. HungUp)
           (if b then Next.Wake (writer_rendez row woken) TOP_LEVEL else Next.Over (Ok tt))
           ≡ Next.Sleep there number → ⊥
       never true is = cc
       never false is = cc
-  sleeps_rightly d fits pid there number
+  sleeps_rightly d fits holders pid there number
       (Writes writer bytes (TryState.Tries (PutState.Told (reply.Done n)))) by rightly is =
       absurd cc
-  sleeps_rightly d fits pid there number
+  sleeps_rightly d fits holders pid there number
       (Writes writer bytes (TryState.Tries (PutState.Told (reply.Refused why)))) by rightly is =
       absurd cc
-  sleeps_rightly d fits pid there number
+  sleeps_rightly d fits holders pid there number
       (Blocks (TryState.Tries (BlockState.Told (reply.Done n)))) by rightly is = absurd cc
-  sleeps_rightly d fits pid there number
+  sleeps_rightly d fits holders pid there number
       (Blocks (TryState.Tries (BlockState.Told (reply.Refused why)))) by rightly is = absurd cc
-  sleeps_rightly d fits pid there number call by rightly is = absurd cc
+  sleeps_rightly d fits holders pid there number call by rightly is = absurd cc
 
   -- ---- who sleeps, or whose call is over, is to wake nobody
 

@@ -12,7 +12,7 @@ use Rattle.call_machines.specs.Runs.{System}
 use Rattle.call_machines.specs.Schedules.{position_of}
 use Rattle.pipe_machines.specs.BlockMachine.{BlockState}
 use Rattle.pipe_machines.specs.PipeEnds.{AreItsPrograms, calls_in}
-use Rattle.pipe_machines.specs.PipeRuns.{BeginsBy, CallOut, CallState, DirectionState}
+use Rattle.pipe_machines.specs.PipeRuns.{BeginsBy, CallOut, CallState, DirectionState, Holders}
 use Rattle.pipe_machines.specs.PipeRuns.CallState.{Blocks, Writes}
 use Rattle.pipe_machines.specs.Requests.{PipeReply, PipeRequest}
 use Rattle.pipe_machines.specs.Tries.TryState.{Tries}
@@ -82,7 +82,10 @@ who_ended_does : rests_at {At = CallState} is_served Ended ≡ true
 who_ended_does = refl
 
 -- these are programs of the direction: the server is its reader, and the other process its writer
-are_its : AreItsPrograms 1 (row Message) 3 serving starts
+abbrev holders : Holders
+holders = record { reader = 0; writers = 1 ∷ [] }
+
+are_its : AreItsPrograms 1 (row Message) holders 3 serving starts
 are_its =
     record {
       room = record { ends = omega arith; there = omega arith };
@@ -94,7 +97,7 @@ are_its =
     Of (suc zero) (Sends block others) = ⊤
     Of pid place = ⊥
 
-    begins : (pid : ℕ) (place : Place) → Of pid place → BeginsBy pid (call_at place)
+    begins : (pid : ℕ) (place : Place) → Of pid place → BeginsBy holders pid (call_at place)
     begins zero Serves of = (refl, refl)
     begins (suc zero) (Sends block others) of = (refl, refl)
     begins zero (Sends block others) of = absurd of
@@ -125,3 +128,20 @@ are_its =
     all pid (suc calls) place comes =
         next pid comes.before place comes.answer (all pid calls comes.before comes.comes)
         comes.follows
+
+-- a call is not by a process that lacks its seat
+not_by_the_server : BeginsBy holders 0 (call_at (Sends a [])) → ⊥
+not_by_the_server begins = let is : ◌≡◌ {A = Option ℕ} (Some 1) (Some 0) = begins.0 in cc
+
+nor_does_the_sender_serve : BeginsBy holders 1 (call_at Serves) → ⊥
+nor_does_the_sender_serve begins = let is : ◌≡◌ {A = ℕ} 1 0 = begins.0 in cc
+
+-- one process may have several seats
+abbrev one_for_both : Holders
+one_for_both = record { reader = 2; writers = 2 ∷ [] }
+
+it_reads : BeginsBy one_for_both 2 (call_at Serves)
+it_reads = (refl, refl)
+
+and_it_writes : BeginsBy one_for_both 2 (call_at (Sends a []))
+and_it_writes = (refl, refl)

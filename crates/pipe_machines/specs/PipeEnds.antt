@@ -12,7 +12,7 @@ use Rattle.call_machines.specs.Replies.{SuchStopAtRest, SuchStuckAtRest}
 use Rattle.call_machines.specs.Runs.{System}
 use Rattle.call_machines.specs.StrictRuns.{NeverStrictlyStuck, WaitsAskAgain}
 use Rattle.pipe_machines.specs.PipeRuns.{BeginsBy, CallOut, CallState, DirectionState, HasRoom}
-use Rattle.pipe_machines.specs.PipeRuns.{part_told, pipe_calls, told_put}
+use Rattle.pipe_machines.specs.PipeRuns.{Holders, part_told, pipe_calls, told_put}
 use Rattle.pipe_machines.specs.PipeRuns.CallState.{Blocks, Hangs, Reads, TriesToRead, Writes}
 use Rattle.pipe_machines.specs.Requests.{PipeReply, PipeRequest}
 
@@ -35,10 +35,10 @@ goes_on d (Hangs seat at) = false
 
 module _ {At : Type 0} where
   -- the processes run this program, and each makes its calls by an end of its own
-  pub record AreItsPrograms (limit : ℕ) (row : Row) (rendez : ℕ)
+  pub record AreItsPrograms (limit : ℕ) (row : Row) (holders : Holders) (rendez : ℕ)
       (program : Program At CallState CallOut) (starts : List (Option At)) : Type 0 where
-    pub room : HasRoom row rendez (length starts)
-    pub begin : EachBegins program BeginsBy starts
+    pub room : HasRoom row holders rendez
+    pub begin : EachBegins program (BeginsBy holders) starts
 
   abbrev pub calls_in : ℕ → Row → ℕ → Program At CallState CallOut → List (Option At)
       → System (ProgramState At CallState) PipeRequest PipeReply Unit DirectionState
@@ -51,17 +51,17 @@ module _ {At : Type 0} where
 -- Where nobody goes on, nobody waits whom the direction would let go on.
 abbrev pub WakeupsOfPipesAreDue : Type 0 → Type 0
 WakeupsOfPipesAreDue At =
-    (limit : ℕ) (row : Row) (rendez : ℕ) (program : Program At CallState CallOut)
-    (starts : List (Option At))
-    → AreItsPrograms limit row rendez program starts
+    (limit : ℕ) (row : Row) (holders : Holders) (rendez : ℕ)
+    (program : Program At CallState CallOut) (starts : List (Option At))
+    → AreItsPrograms limit row holders rendez program starts
     → WakeupsAreDue (calls_in limit row rendez program starts) GoesOn
 
 -- A call that sleeps asks again; where it would have to wait, the direction stays and it waits on.
 abbrev pub WaitsAskInVain : Type 0 → Type 0
 WaitsAskInVain At =
-    (limit : ℕ) (row : Row) (rendez : ℕ) (program : Program At CallState CallOut)
-    (starts : List (Option At))
-    → AreItsPrograms limit row rendez program starts
+    (limit : ℕ) (row : Row) (holders : Holders) (rendez : ℕ)
+    (program : Program At CallState CallOut) (starts : List (Option At))
+    → AreItsPrograms limit row holders rendez program starts
     → WaitsAskAgain (calls_in limit row rendez program starts) GoesOn
 
 -- If wherever a run at the grain of calls comes to where each process has ended, or waits and has
@@ -69,9 +69,9 @@ WaitsAskInVain At =
 -- which a sleep is refused, or a wait ends well before the direction would let the call go on.
 abbrev pub PipeEndsHold : Type 0 → Type 0
 PipeEndsHold At =
-    (limit : ℕ) (row : Row) (rendez : ℕ) (program : Program At CallState CallOut)
-    (starts : List (Option At))
-    → AreItsPrograms limit row rendez program starts
+    (limit : ℕ) (row : Row) (holders : Holders) (rendez : ℕ)
+    (program : Program At CallState CallOut) (starts : List (Option At))
+    → AreItsPrograms limit row holders rendez program starts
     → NeverStrictlyStuck (calls_in limit row rendez program starts) GoesOn
     → NoRunDeadlocks (calls_in limit row rendez program starts)
 
@@ -89,9 +89,9 @@ LeavesUnworn request told = is_unworn told ≡ true
 -- call of a place that is served.
 abbrev pub PipeRestsHold : Type 0 → Type 0
 PipeRestsHold At =
-    (limit : ℕ) (row : Row) (rendez : ℕ) (program : Program At CallState CallOut)
-    (starts : List (Option At)) (served : At → Bool)
-    → AreItsPrograms limit row rendez program starts
+    (limit : ℕ) (row : Row) (holders : Holders) (rendez : ℕ)
+    (program : Program At CallState CallOut) (starts : List (Option At)) (served : At → Bool)
+    → AreItsPrograms limit row holders rendez program starts
     → SuchStuckAtRest (calls_in limit row rendez program starts) LeavesUnworn GoesOn
     (λ state. rests_at served state ≡ true)
     → SuchStopAtRest (calls_in limit row rendez program starts) LeavesUnworn

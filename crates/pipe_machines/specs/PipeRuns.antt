@@ -1,9 +1,9 @@
--- Runs of a pipe's calls at one direction: one process reads it, and the others write it. The
--- direction is an object that replies to each request. Own: a write that was accepted and does not
--- stand yet is not read.
-use Rattle.std.specs.Prelude.{◌≡◌, ◌≢◌, ◌≤◌, ◌+◌, ◌==◌, ℕ, Bool, true, false, if◌then◌else◌}
-use Rattle.std.specs.Prelude.{nat_le, List, [], ◌∷◌, length, take, drop, replicate, Option, Some}
-use Rattle.std.specs.Prelude.{None}
+-- Runs of a pipe's calls at one direction: one process reads it, and each writer is of one process.
+-- The direction is an object that replies to each request. Own: a write that was accepted and does
+-- not stand yet is not read.
+use Rattle.std.specs.Prelude.{◌≡◌, ◌≢◌, ◌≤◌, ◌+◌, ◌==◌, ℕ, zero, suc, Bool, true, false}
+use Rattle.std.specs.Prelude.{if◌then◌else◌, nat_le, List, [], ◌∷◌, length, take, drop, replicate}
+use Rattle.std.specs.Prelude.{Option, Some, None, slice_get}
 use Rattle.sync_base.specs.declared.limits.TheConstants.{ATOMIC_SIZE}
 use Rattle.sync_base.specs.Write.{Write}
 use Rattle.block_queue.specs.declared.queue_object.QueueCall.TheVariants as asked
@@ -180,18 +180,32 @@ module _ (limit : ℕ) (row : Row) where
         none = none;
       }
 
--- a call begins, by its process: the reader is process 0, and writer w is process w + 1
-abbrev pub BeginsBy : ℕ → CallState → Type 0
-BeginsBy pid (Writes writer bytes at) = (pid ≡ writer + 1) × (at ≡ TryState.Tries Putting)
-BeginsBy pid (Reads buffer at) =
-    (pid ≡ 0) × (buffer ≢ []) × (at ≡ TryState.Tries (Filling 0 None))
-BeginsBy pid (TriesToRead buffer at) = (pid ≡ 0) × (buffer ≢ []) × (at ≡ Filling 0 None)
-BeginsBy pid (Blocks at) = (pid ≡ 0) × (at ≡ TryState.Tries Reading)
-BeginsBy pid (Hangs seat at) = (pid ≡ seat) × (at ≡ Hanging)
+-- ---- who makes them
 
--- there is a process for the reader and for each writer at most, and their Rendez are in the world
-pub record HasRoom (row : Row) (rendez procs : ℕ) : Type 0 where
-  pub ends : procs ≤ row.writers + 1
+-- the process that has the read end, and that of each writer, in order
+pub record Holders : Type 0 where
+  pub reader : ℕ
+  pub writers : List ℕ
+
+-- the process has this seat: the reader has seat 0, and writer w seat w + 1
+abbrev pub Holds : Holders → ℕ → ℕ → Type 0
+Holds holders pid zero = pid ≡ holders.reader
+Holds holders pid (suc writer) = slice_get holders.writers writer ≡ Some pid
+
+-- a call begins, by a process that has its seat
+abbrev pub BeginsBy : Holders → ℕ → CallState → Type 0
+BeginsBy holders pid (Writes writer bytes at) =
+    Holds holders pid (suc writer) × (at ≡ TryState.Tries Putting)
+BeginsBy holders pid (Reads buffer at) =
+    Holds holders pid 0 × (buffer ≢ []) × (at ≡ TryState.Tries (Filling 0 None))
+BeginsBy holders pid (TriesToRead buffer at) =
+    Holds holders pid 0 × (buffer ≢ []) × (at ≡ Filling 0 None)
+BeginsBy holders pid (Blocks at) = Holds holders pid 0 × (at ≡ TryState.Tries Reading)
+BeginsBy holders pid (Hangs seat at) = Holds holders pid seat × (at ≡ Hanging)
+
+-- there is a Rendez for the reader and for each writer, and they are in the world
+pub record HasRoom (row : Row) (holders : Holders) (rendez : ℕ) : Type 0 where
+  pub ends : length holders.writers ≤ row.writers
   pub there : row.first + 1 + row.writers ≤ rendez
 
 -- a process with no call under way

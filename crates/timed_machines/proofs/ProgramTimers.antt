@@ -24,7 +24,8 @@ use Rattle.timed_machines.specs.TimedCalls.{timed_calls}
 use Rattle.timed_machines.specs.TimedCalls.TimedCall.{Plain, Tick, Until}
 use Rattle.timed_machines.specs.TimedEnds.{BeginsTimed, IsOfWait, IsTick, IsTimed, IsTold, IsToTell}
 use Rattle.timed_machines.specs.TimedEnds.{NoteComes}
-use Rattle.timed_machines.specs.TimedEnds.{MayHaveDeadline, NotesOfTicksCome, timed_goes}
+use Rattle.timed_machines.specs.TimedEnds.{LacksNote, MayHaveDeadline, NotesOfTicksCome}
+use Rattle.timed_machines.specs.TimedEnds.{timed_goes}
 use Rattle.timed_machines.specs.TimedEnds.{timed_programs}
 use Rattle.timed_machines.specs.TimedEnds.NoteComes.{IsOwed, IsPending}
 use Rattle.timed_machines.proofs.InvariantLemmas as timed_lemmas
@@ -135,6 +136,18 @@ module _ {At Request Reply Out Object Place : Type 0} (system : System At Reques
     wait_so pid place (Plain at) t is = is
     wait_so pid place (Tick now at) t is = is
 
+    lacks_so : (pid : ℕ) (place : Place) (c : TimedCall At Out)
+        → positions.IsMine system Own Starts Holds pid c
+        → LacksNote system program starts (In place c)
+    lacks_so pid place (Until until (Awaits notes ending)) mine = mine.1
+    lacks_so pid place (Until until (Begins at)) mine = tt
+    lacks_so pid place (Until until (Waits at failed)) mine = tt
+    lacks_so pid place (Until until (Drains notes ending)) mine = tt
+    lacks_so pid place (Until until (PutsBack set out)) mine = tt
+    lacks_so pid place (Until until (Over out)) mine = tt
+    lacks_so pid place (Plain at) mine = tt
+    lacks_so pid place (Tick now at) mine = tt
+
     timed_so : (pid : ℕ) → pid < procs system → IsTimed system program starts p pid
     timed_so pid low = by (at_of whole p pid) refl (show_of pid low _ refl)
       where
@@ -163,6 +176,10 @@ module _ {At Request Reply Out Object Place : Type 0} (system : System At Reques
                   IsOfWait system program starts r t) (sym is)
                   (wait_so pid place c t (subst (λ (d : TimedCall At Out).
                   positions.IsTimerOf system Own Starts Holds pid d t) show of_timer));
+              lacks = subst (LacksNote system program starts) (sym is)
+                  (lacks_so pid place c
+                  (subst (positions.IsMine system Own Starts Holds pid) show
+                  (fine.holds.mine pid low)));
             }
         by Ended is over =
             record {
@@ -172,6 +189,7 @@ module _ {At Request Reply Out Object Place : Type 0} (system : System At Reques
                   IsOfWait system program starts r t) (sym is)
                   (timed_lemmas.ended_timer system goes BeginsBy WaitsIn Own Holds invariant keeps
                   own_rendez pid (at_of (timed_calls system) calls_at pid) t over of_timer);
+              lacks = subst (LacksNote system program starts) (sym is) tt;
             }
 
   -- it holds of each process wherever moves come

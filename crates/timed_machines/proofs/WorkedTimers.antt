@@ -23,6 +23,9 @@ use Rattle.tag_space.specs.GroupObject as object
 use Rattle.timer_list.specs.declared.timer_object.Timer.{Timer}
 use Rattle.timer_list.specs.declared.timer_object.Timer.TheVariants as timer
 use Rattle.waiting.specs.declared.wait.WaitEnd.TheVariants.{Answered}
+use Rattle.pipe_dev.specs.declared.row.Row.{Row}
+use Rattle.sync_base.specs.declared.mode.Mode.TheVariants.{Message}
+use Rattle.pipe_machines.specs.PipeRuns.{Holders}
 use Rattle.call_machines.specs.Grain.{coarse_of, moves_of}
 use Rattle.call_machines.specs.Programs.{Program, ProgramState}
 use Rattle.call_machines.specs.Programs.ProgramState.{Ended, In}
@@ -70,7 +73,7 @@ use Rattle.timer_machines.specs.Requests.TimedRequest.{ToDevice, ToTimers}
 use Rattle.timer_machines.specs.TimedMachines.TimedState.{Drains}
 use Rattle.timed_machines.specs.NotesKept.{KeepsNotes}
 use Rattle.timed_machines.specs.TimedEnds.{BeginsTimed, IsOfWait, IsTick, IsToTell, IsTold}
-use Rattle.timed_machines.specs.TimedEnds.{NoteComes, timed_goes}
+use Rattle.timed_machines.specs.TimedEnds.{LacksNote, NoteComes, timed_goes}
 use Rattle.timed_machines.specs.TimedEnds.NoteComes.{IsOwed, IsPending}
 use Rattle.timed_machines.specs.TimedObjects.{AreTimedPrograms, TimedGoesOn, is_timed_unworn}
 
@@ -104,12 +107,21 @@ module _ (lock : Locked SemaState SemaCall SemaReply)
         numbered = omega arith;
       }
 
-  -- the semaphore has no unit at first
+  -- a direction that is said to be where none is
+  abbrev direction : Row
+  direction = record { first = 6; writers = 1; mode = Message; small = omega arith }
+
+  abbrev holders : Holders
+  holders = record { reader = 1; writers = 0 ∷ [] }
+
+  -- the semaphore has no unit at first, and there is no pipe
   abbrev objects : Objects
   objects =
       record {
         semas = record { sema = sema; value = 0 } ∷ [];
         none = record { sema = sema; value = 0 };
+        pipes = [];
+        no_pipe = record { limit = 1; row = direction; holders = holders };
         space = space;
         choices = [];
         procs = 3;
@@ -323,6 +335,15 @@ module _ (lock : Locked SemaState SemaCall SemaReply)
       (Some 0 ∷ Some 1 ∷ Some 3 ∷ []) awaiting (timer.Set (proc 0) 150) → ⊥
   a_timer_is_left_set of_wait = cc
 
+  -- who has taken the note awaits it no longer
+  it_has_come : LacksNote (object_calls objects) program (Some 0 ∷ Some 1 ∷ Some 3 ∷ [])
+      (In 0 (Until (until 0) (Awaits (only Expired) acquired))) → ⊥
+  it_has_come lacks = false≢true (sym lacks)
+
+  another_came : LacksNote (object_calls objects) program (Some 0 ∷ Some 1 ∷ Some 3 ∷ [])
+      (In 0 (Until (until 0) (Awaits (only Alarm) acquired)))
+  another_came = refl
+
   -- ---- who goes on
 
   abbrev goes : TimedObject ObjectStates → Stand → Bool
@@ -472,6 +493,9 @@ module _ (lock : Locked SemaState SemaCall SemaReply)
       before zero low = inl (omega arith)
       before (suc number) low = absurd (let one : suc number < 1 = low in omega arith)
 
+      no_pipes : (number : ℕ) → number < 0 → ⊥
+      no_pipes number low = omega (arith, low)
+
       in_one_world : AreInOneWorld objects
       in_one_world =
           record {
@@ -479,6 +503,10 @@ module _ (lock : Locked SemaState SemaCall SemaReply)
             room = record { members = omega arith; row = omega arith };
             semas_apart = apart;
             space_apart = before;
+            pipes = λ number low. absurd (no_pipes number low);
+            pipes_apart = λ number other low there differs. absurd (no_pipes number low);
+            pipe_sema_apart = λ number other low there. absurd (no_pipes number low);
+            pipe_space_apart = λ number low. absurd (no_pipes number low);
           }
 
   -- the first process is at its acquire, or takes its notes where that timed out

@@ -98,10 +98,16 @@ module _ {At Request Reply Out Object Place : Type 0}
     IsOfWait (In place (Until until (Waits call failed))) t = ⊤
     IsOfWait state t = t ≡ timer.Unset
 
+    -- who awaits that note has not taken it
+    abbrev pub LacksNote : ProgramState Place (TimedCall At Out) → Type 0
+    LacksNote (In place (Until until (Awaits notes ending))) = holds notes Expired ≡ false
+    LacksNote state = ⊤
+
     -- what holds of each process and its timer
     pub record IsTimed (at : Coarse timed_programs) (pid : ℕ) : Type 0 where
       pub told : IsTold at pid (at_of timed_programs at pid) (timer_of at.object.timers pid)
       pub of_wait : IsOfWait (at_of timed_programs at pid) (timer_of at.object.timers pid)
+      pub lacks : LacksNote (at_of timed_programs at pid)
 
     -- it does wherever moves come
     abbrev pub NotesOfTicksCome : Type 0

@@ -1,5 +1,5 @@
--- Calls with deadlines and ticks at several semaphores and a tag space, and when processes that
--- make them deadlock.
+-- Calls with deadlines and ticks at several semaphores, directions of pipes and a tag space, and
+-- when processes that make them deadlock.
 use Rattle.std.specs.Prelude.{◌≡◌, Bool, true, Option, List, length}
 use Rattle.call_machines.specs.Ends.{NoRunDeadlocks}
 use Rattle.call_machines.specs.GrainEnds.{WakeupsAreDue}
@@ -26,8 +26,8 @@ abbrev pub TimedObjectOut : Type 0
 TimedObjectOut = TimedOut ObjectOut
 
 module _ (objects : Objects) {Place : Type 0} where
-  -- The processes run this program of such calls. A call with a deadline is one that waits, and has
-  -- the timer of its process.
+  -- The processes run this program of such calls. A call with a deadline is one that waits, at a
+  -- semaphore or in the space, and has the timer of its process.
   pub record AreTimedPrograms (program : Program Place TimedObjectCall TimedObjectOut)
       (starts : List (Option Place)) : Type 0 where
     pub world : AreInOneWorld objects
@@ -63,9 +63,9 @@ TimedWakeupsAreDue Place =
     → AreTimedPrograms objects program starts
     → WakeupsAreDue (timed_calls_at objects program starts) (TimedGoesOn objects program starts)
 
--- If wherever a run at the grain of calls comes to where each process has ended or waits without a
--- unit, a partner and notes all have ended, no run of the calls deadlocks. Runs need not be looked
--- at in which a sleep is refused, or a wait ends well before its object lets it.
+-- If wherever a run at the grain of calls comes to where each process has ended, or waits and has
+-- to by its object and without notes, all have ended, no run of the calls deadlocks. Runs need not
+-- be looked at in which a sleep is refused, or a wait ends well before its object lets it.
 abbrev pub TimedObjectsEndHold : Type 0 → Type 0
 TimedObjectsEndHold Place =
     (objects : Objects) (program : Program Place TimedObjectCall TimedObjectOut)
