@@ -18,9 +18,13 @@ use Rattle.semaphore.specs.declared.sema_object.Stage.TheVariants.{Granted, Idle
 use Rattle.semaphore.specs.Units.{SemaState, stage_of}
 use Rattle.semaphore.specs.WaitQueue.{without}
 use Rattle.calls.specs.declared.call.Call.TheVariants as call
+use Rattle.calls.specs.declared.ending.Ending.{Ending}
+use Rattle.calls.specs.declared.ending.Ending.TheVariants as ending
 use Rattle.calls.specs.declared.line.Line.{Line}
 use Rattle.calls.specs.declared.process.Want.{Want}
 use Rattle.calls.specs.declared.process.Want.TheVariants as want
+use Rattle.calls.specs.Lines.{after_ending}
+use Rattle.calls.specs.Pipes.{Direction}
 use Rattle.calls.specs.Program.{IsProgram, Program, procs_of}
 use Rattle.call_machines.specs.Machine.{Outcome}
 use Rattle.call_machines.specs.Programs as machines
@@ -39,7 +43,7 @@ use Rattle.object_machines.specs.ObjectCalls.ObjectCall.{AtSema}
 use Rattle.object_machines.specs.ObjectCalls.ObjectReply.{BySema}
 use Rattle.object_machines.specs.ObjectCalls.ObjectRequest.{OfSema}
 use Rattle.object_machines.specs.ObjectEnds.{is_sema_unworn}
-use Rattle.explored_calls.specs.LibraryCalls.{IsCovered, Spot, library_program}
+use Rattle.explored_calls.specs.LibraryCalls.{Given, IsCovered, Spot, library_program}
 use Rattle.explored_calls.specs.LibraryCalls.{place_after}
 use Rattle.explored_calls.proofs.Arrivals.{arrived, at_else, at_self, becomes_after, leads}
 use Rattle.explored_calls.proofs.Arrivals.{own_arrives}
@@ -70,13 +74,13 @@ granted_no Waiting is = refl
 granted_no Idle is = refl
 
 module _ (program : Program) (is_program : IsProgram program) (covered : IsCovered program)
-    (given : Spot → ℕ) (objects : Objects) where
-  module _ (v : View program objects) (m : Running) (follows : Follows program m)
-      (fits : Fits program objects v m) (pid : ℕ) (low : pid < procs_of program) (number : ℕ)
-      (there : number < length program.values) where
+    (given : Spot → Given) (objects : Objects) where
+  module _ (v : View program objects) (pipes : List Direction) (m : Running)
+      (follows : Follows program pipes m) (fits : Fits program objects v m) (pid : ℕ)
+      (low : pid < procs_of program) (number : ℕ) (there : number < length program.values) where
     -- the explorer follows to this position
     abbrev Followed : View program objects → Type 0
-    Followed w = IsFollowed program objects w
+    Followed w = IsFollowed program objects pipes w
 
     -- where a process is after its call was told so
     abbrev gone : ProgramState Spot ObjectCall → Outcome ObjectReply → ProgramState Spot ObjectCall
@@ -91,7 +95,7 @@ module _ (program : Program) (is_program : IsProgram program) (covered : IsCover
 
     -- the process waits at no other object
     abbrev Elsewhere : Type 0
-    Elsewhere = IsElsewhere program objects v m fits pid low number there
+    Elsewhere = IsElsewhere program objects v pipes m fits pid low number there
 
     -- the position has units of this semaphore
     valued_low : number < length m.values
@@ -100,12 +104,11 @@ module _ (program : Program) (is_program : IsProgram program) (covered : IsCover
     module _ (spot : Spot) (by : spot.by ≡ pid) (line : Line)
         (line_is : slice_get program.lines spot.place ≡ Some line) where
       -- where an answer leads the process
-      lead : (on : Bool)
+      lead : (ends : Ending)
           → arrived program is_program covered given objects spot.by
-          (place_after on (slice_get program.lines spot.place) spot.place)
-          ≡ arrived program is_program covered given objects pid
-          (if on then line.next else line.other)
-      lead on = leads program is_program covered given objects spot pid line on by line_is
+          (place_after ends (slice_get program.lines spot.place) spot.place)
+          ≡ arrived program is_program covered given objects pid (after_ending line ends)
+      lead ends = leads program is_program covered given objects spot pid line ends by line_is
 
       -- a process that takes a unit
       takes_now : (hold : Hold)
@@ -118,7 +121,7 @@ module _ (program : Program) (is_program : IsProgram program) (covered : IsCover
           → m.phase pid ≡ Is spot.place
           → Followed (heard hold (arrived program is_program covered given objects pid line.next))
       takes_now hold answered has idle before made phase =
-          own_step program objects v m fits pid low number there
+          own_step program objects v pipes m fits pid low number there
           (goes (valued m (slice_set m.values number (slice_index m.values number - 1))) pid (Is
           line.next)) (UnitFacts.taken_from (sema_state objects v.object number))
           (object_after objects v.object (OfSema number hold))
@@ -138,7 +141,7 @@ module _ (program : Program) (is_program : IsProgram program) (covered : IsCover
           (λ sema apart. get_or-set_other m.values number sema _ 0 apart)
           (fits.lines number there) (λ sema apart. refl)
           (λ waits. idle) before
-          (RunningSteps.takes_unit program m follows pid spot.place line
+          (RunningSteps.takes_unit program pipes m follows pid spot.place line
           (record { low = low; phase_is = phase; line_is = line_is }) number (Is line.next)
           (goes_is program line.next) made
           (ap (nat_lt 0) (fits.values number there) ∙ has))
@@ -178,7 +181,7 @@ module _ (program : Program) (is_program : IsProgram program) (covered : IsCover
         where
           idle : stage_of (sema_state objects v.object number) pid ≡ Idle
           idle =
-              not_waiting program objects v m fits pid low number there
+              not_waiting program objects v pipes m fits pid low number there
               (In spot (AtSema number (Takes pid Begun))) is refl
 
           by_answer : (nat_lt 0 (sema_state objects v.object number).value ≡ true)
@@ -194,18 +197,18 @@ module _ (program : Program) (is_program : IsProgram program) (covered : IsCover
               Begun))) (Outcome.Replied (BySema
               (hold_answer (sema_state objects v.object number) (Alone (Acquire pid)))))))
           by_answer (inl has) =
-              by_reply program is_program covered given objects v m fits pid low number there
+              by_reply program is_program covered given objects v pipes m fits pid low number there
               (Alone (Acquire pid)) (UnitFacts.alone reply.Acquired)
               (In spot (AtSema number (Takes pid Begun)))
               (arrived program is_program covered given objects pid line.next) has.1.told_is (lead
-              true) (takes_now (Alone (Acquire pid)) has.1 has.0 idle
+              ending.Done) (takes_now (Alone (Acquire pid)) has.1 has.0 idle
               (before Begun is made phase) (inl made) phase)
           by_answer (inr (none, inl waits)) =
-              by_reply program is_program covered given objects v m fits pid low number there
+              by_reply program is_program covered given objects v pipes m fits pid low number there
               (Alone (Acquire pid)) (UnitFacts.alone (reply.Wait waits.0))
               (In spot (AtSema number (Takes pid Begun)))
               (In spot (AtSema number (Takes pid (Waits waits.0)))) waits.1.told_is refl
-              (own_step program objects v m fits pid low number there
+              (own_step program objects v pipes m fits pid low number there
               (waiting m pid spot.place (want.Unit number))
               (UnitFacts.waits_at (sema_state objects v.object number) pid)
               (object_after objects v.object (OfSema number (Alone (Acquire pid)))) _ (v.notes pid)
@@ -231,7 +234,7 @@ module _ (program : Program) (is_program : IsProgram program) (covered : IsCover
               (λ what apart. rw apart refl)
               (λ idle_now. absurd (let self : (number == number) ≡ true = grind (arith, nat_tests)
               in cc)) (before Begun is made phase)
-              (RunningSteps.waits_for_unit program m follows pid spot.place line
+              (RunningSteps.waits_for_unit program pipes m follows pid spot.place line
               (record { low = low; phase_is = phase; line_is = line_is }) number made
               (ap (nat_lt 0) (fits.values number there) ∙ none)))
             where
@@ -291,7 +294,8 @@ module _ (program : Program) (is_program : IsProgram program) (covered : IsCover
           → Elsewhere
           → Followed (stepped program objects v pid v.object now (v.notes pid))
       stutter at now is made phase waits before =
-          alone_step program objects v m fits pid low number there m v.object now (v.notes pid)
+          alone_step program objects v pipes m fits pid low number there m v.object now (v.notes
+          pid)
           (sema_state objects v.object number) (alike_self (sema_state objects v.object number))
           (becomes_itself program objects v.object number)
           phase (λ other apart. refl) (fits.notes pid low) (λ other apart. refl) refl (λ sema. refl)
@@ -329,12 +333,12 @@ module _ (program : Program) (is_program : IsProgram program) (covered : IsCover
               → WaitPhase {Out = Unit} go spot.place line.next (want.Unit number)
               (Leaving (fault.Interrupted (v.notes pid))) held
               → next.phase ≡ at_one pid held m.phase → next.notes ≡ at_one pid no_notes m.notes
-              → next.values ≡ m.values → next.line ≡ m.line → Follows program next
+              → next.values ≡ m.values → next.line ≡ m.line → Follows program pipes next
               → Followed (stepped program objects v pid v.object
               (In spot (AtSema number (Takes pid (Leaving (fault.Interrupted (v.notes pid))))))
               no_notes)
           step next held go granted holds phases notes values lines followed =
-              alone_step program objects v m fits pid low number there next v.object
+              alone_step program objects v pipes m fits pid low number there next v.object
               (In spot (AtSema number (Takes pid (Leaving (fault.Interrupted (v.notes pid))))))
               no_notes
               (sema_state objects v.object number) (alike_self (sema_state objects v.object number))
@@ -365,11 +369,12 @@ module _ (program : Program) (is_program : IsProgram program) (covered : IsCover
               phase ∙ ap (λ (go : Bool).
               if go then Served line.next no_notes else InLine spot.place (want.Unit number))
               granted in
-              step (WaitSteps.holding program m follows pid line.next) (Served line.next (m.notes
+              step (WaitSteps.holding program pipes m follows pid line.next) (Served line.next
+              (m.notes
               pid)) true
               granted (ap (λ (set : NoteSet). Served line.next set) (sym same_notes))
               refl refl refl refl
-              (WaitSteps.holds_notes program m follows pid line.next served)
+              (WaitSteps.holds_notes program pipes m follows pid line.next served)
           by_granted false granted =
               let waits : m.phase pid ≡ InLine spot.place (want.Unit number) =
               phase ∙ ap (λ (go : Bool).
@@ -378,7 +383,8 @@ module _ (program : Program) (is_program : IsProgram program) (covered : IsCover
               (Noted spot.place (want.Unit number) (m.notes pid)) false
               granted (ap (λ (set : NoteSet). Noted spot.place (want.Unit number) set) (sym
               same_notes)) refl refl refl refl
-              (WaitSteps.notes_end program m follows pid spot.place (want.Unit number) line low
+              (WaitSteps.notes_end program pipes m follows pid spot.place (want.Unit number) line
+              low
               line_is waits (ap has_notes (sym same_notes) ∙ some))
 
       -- its stage is idle again
@@ -428,11 +434,11 @@ module _ (program : Program) (is_program : IsProgram program) (covered : IsCover
               phase ∙ ap (λ (go : Bool).
               if go then Served line.next no_notes else InLine spot.place (want.Unit number))
               (granted_yes _ has.0) in
-              by_reply program is_program covered given objects v m fits pid low number there
+              by_reply program is_program covered given objects v pipes m fits pid low number there
               (Alone (Collect pid)) (UnitFacts.alone reply.Granted)
               (In spot (AtSema number (Takes pid Asking)))
               (arrived program is_program covered given objects pid line.next) has.1.told_is (lead
-              true) (own_step program objects v m fits pid low number there
+              ending.Done) (own_step program objects v pipes m fits pid low number there
               (goes (pending m pid (joined (m.notes pid) no_notes)) pid (Is line.next))
               rested
               (object_after objects v.object (OfSema number (Alone (Collect pid)))) _ (v.notes pid)
@@ -450,14 +456,15 @@ module _ (program : Program) (is_program : IsProgram program) (covered : IsCover
               refl (fits.values number there) (λ sema apart. refl)
               (fits.lines number there) (λ sema apart. refl) (λ waits. rests_here)
               (before Asking is made phase)
-              (WaitSteps.goes_on program m follows pid line.next no_notes (Is line.next) served
+              (WaitSteps.goes_on program pipes m follows pid line.next no_notes (Is line.next)
+              served
               (goes_is program line.next)))
           by_answer (inr (none, waits)) =
-              by_reply program is_program covered given objects v m fits pid low number there
+              by_reply program is_program covered given objects v pipes m fits pid low number there
               (Alone (Collect pid)) (UnitFacts.alone (reply.Wait waits.0))
               (In spot (AtSema number (Takes pid Asking)))
               (In spot (AtSema number (Takes pid (Waits waits.0)))) waits.1.told_is refl
-              (alone_step program objects v m fits pid low number there m
+              (alone_step program objects v pipes m fits pid low number there m
               (object_after objects v.object (OfSema number (Alone (Collect pid)))) _
               (v.notes pid) (sema_state objects v.object number)
               (alike_self (sema_state objects v.object number)) becomes
@@ -510,11 +517,11 @@ module _ (program : Program) (is_program : IsProgram program) (covered : IsCover
               phase ∙ ap (λ (go : Bool).
               if go then Served line.next set else Noted spot.place (want.Unit number) set)
               (granted_yes _ has.0) in
-              by_reply program is_program covered given objects v m fits pid low number there
+              by_reply program is_program covered given objects v pipes m fits pid low number there
               (Alone (Leave pid)) (UnitFacts.alone reply.Granted)
               (In spot (AtSema number (Takes pid (Leaving (fault.Interrupted set)))))
               (In spot (AtSema number (Takes pid (Returning set tt)))) has.1.told_is refl
-              (own_step program objects v m fits pid low number there m rested
+              (own_step program objects v pipes m fits pid low number there m rested
               (object_after objects v.object (OfSema number (Alone (Leave pid)))) _ (v.notes pid)
               (becomes_after program is_program covered given objects v.object number
               (Alone (Leave pid)) _ (sema_there program objects v m fits number there)
@@ -531,11 +538,11 @@ module _ (program : Program) (is_program : IsProgram program) (covered : IsCover
               phase ∙ ap (λ (go : Bool).
               if go then Served line.next set else Noted spot.place (want.Unit number) set)
               (granted_no _ none) in
-              by_reply program is_program covered given objects v m fits pid low number there
+              by_reply program is_program covered given objects v pipes m fits pid low number there
               (Alone (Leave pid)) (UnitFacts.alone reply.Gone)
               (In spot (AtSema number (Takes pid (Leaving (fault.Interrupted set)))))
               (arrived program is_program covered given objects pid line.other) left.told_is (lead
-              false) (own_step program objects v m fits pid low number there
+              ending.Interrupted) (own_step program objects v pipes m fits pid low number there
               (leaving m pid (Is line.other) (want.Unit number))
               (record (sema_state objects v.object number) {
                 stages = slice_set (sema_state objects v.object number).stages pid Idle;
@@ -554,7 +561,7 @@ module _ (program : Program) (is_program : IsProgram program) (covered : IsCover
               (rw (itself (want.Unit number)) (ap (without pid) (fits.lines number there)))
               (λ what apart. rw apart refl) (λ waits. rests_here)
               (before (Leaving (fault.Interrupted set)) is made phase)
-              (WaitSteps.leaves program m follows pid spot.place (want.Unit number) line low
+              (WaitSteps.leaves program pipes m follows pid spot.place (want.Unit number) line low
               line_is set (Is line.other) noted (goes_is program line.other)))
 
       -- it returns the notes that it held
@@ -567,8 +574,8 @@ module _ (program : Program) (is_program : IsProgram program) (covered : IsCover
       returns set out is made phase =
           subst (λ (state : ProgramState Spot ObjectCall).
           Followed (stepped program objects v pid v.object state (joined (v.notes pid) set)))
-          (sym (lead true))
-          (alone_step program objects v m fits pid low number there
+          (sym (lead ending.Done))
+          (alone_step program objects v pipes m fits pid low number there
           (goes (pending m pid (joined (m.notes pid) set)) pid (Is line.next)) v.object
           _ (joined (v.notes pid) set) (sema_state objects v.object number)
           (alike_self (sema_state objects v.object number))
@@ -579,10 +586,10 @@ module _ (program : Program) (is_program : IsProgram program) (covered : IsCover
           ∙ sym (at_self pid (joined (m.notes pid) set) m.notes))
           (λ other apart. sym (at_else pid other (joined (m.notes pid) set) m.notes apart))
           refl (λ sema. refl)
-          (λ waits. not_waiting program objects v m fits pid low number there
+          (λ waits. not_waiting program objects v pipes m fits pid low number there
           (In spot (AtSema number (Takes pid (Returning set out)))) is refl)
           (before (Returning set out) is made phase)
-          (WaitSteps.goes_on program m follows pid line.next set (Is line.next) phase
+          (WaitSteps.goes_on program pipes m follows pid line.next set (Is line.next) phase
           (goes_is program line.next)))
 
       -- ---- a semacquire that does not wait
@@ -599,7 +606,7 @@ module _ (program : Program) (is_program : IsProgram program) (covered : IsCover
         where
           idle : stage_of (sema_state objects v.object number) pid ≡ Idle
           idle =
-              not_waiting program objects v m fits pid low number there
+              not_waiting program objects v pipes m fits pid low number there
               (In spot (AtSema number (Tries pid Trying))) is refl
 
           before_try : Elsewhere
@@ -619,23 +626,23 @@ module _ (program : Program) (is_program : IsProgram program) (covered : IsCover
               Trying))) (Outcome.Replied (BySema
               (hold_answer (sema_state objects v.object number) (Alone (AcquireNow pid)))))))
           by_answer (inl has) =
-              by_reply program is_program covered given objects v m fits pid low number there
+              by_reply program is_program covered given objects v pipes m fits pid low number there
               (Alone (AcquireNow pid)) (UnitFacts.alone reply.Acquired)
               (In spot (AtSema number (Tries pid Trying)))
               (arrived program is_program covered given objects pid line.next) has.1.told_is (lead
-              true)
+              ending.Done)
               (takes_now (Alone (AcquireNow pid)) has.1 has.0 idle before_try (inr made) phase)
           by_answer (inr none) =
-              by_reply program is_program covered given objects v m fits pid low number there
+              by_reply program is_program covered given objects v pipes m fits pid low number there
               (Alone (AcquireNow pid)) (UnitFacts.alone reply.NotNow)
               (In spot (AtSema number (Tries pid Trying)))
               (arrived program is_program covered given objects pid line.other) none.1.told_is
-              (lead false)
-              (goes_now program is_program covered given objects v m fits pid low number there
+              (lead ending.Interrupted)
+              (goes_now program is_program covered given objects v pipes m fits pid low number there
               (Alone (AcquireNow pid)) line.other (sema_state objects v.object number)
               (alike_self (sema_state objects v.object number))
               none.1.after_is idle before_try
-              (RunningSteps.finds_none program m follows pid spot.place line
+              (RunningSteps.finds_none program pipes m follows pid spot.place line
               (record { low = low; phase_is = phase; line_is = line_is }) number (Is line.other)
               (goes_is program line.other) made
               (ap (nat_lt 0) (fits.values number there) ∙ none.0)))

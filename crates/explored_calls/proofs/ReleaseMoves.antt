@@ -15,9 +15,13 @@ use Rattle.semaphore.specs.declared.sema_object.Stage.TheVariants.{Granted, Idle
 use Rattle.semaphore.specs.Units.{SemaState, after, answer_to, stage_of}
 use Rattle.semaphore.specs.WaitQueue.{stands_in}
 use Rattle.calls.specs.declared.call.Call.TheVariants as call
+use Rattle.calls.specs.declared.ending.Ending.{Ending}
+use Rattle.calls.specs.declared.ending.Ending.TheVariants as ending
 use Rattle.calls.specs.declared.line.Line.{Line}
 use Rattle.calls.specs.declared.process.Want.{Want}
 use Rattle.calls.specs.declared.process.Want.TheVariants as want
+use Rattle.calls.specs.Lines.{after_ending}
+use Rattle.calls.specs.Pipes.{Direction}
 use Rattle.calls.specs.Program.{IsProgram, Program, procs_of}
 use Rattle.call_machines.specs.Machine.{Outcome}
 use Rattle.call_machines.specs.Programs as machines
@@ -34,7 +38,7 @@ use Rattle.object_machines.specs.ObjectCalls.{object_after, object_calls, sema_s
 use Rattle.object_machines.specs.ObjectCalls.ObjectCall.{AtSema}
 use Rattle.object_machines.specs.ObjectCalls.ObjectReply.{BySema}
 use Rattle.object_machines.specs.ObjectCalls.ObjectRequest.{OfSema}
-use Rattle.explored_calls.specs.LibraryCalls.{IsCovered, Spot, library_program}
+use Rattle.explored_calls.specs.LibraryCalls.{Given, IsCovered, Spot, library_program}
 use Rattle.explored_calls.specs.LibraryCalls.{place_after}
 use Rattle.explored_calls.proofs.Arrivals.{arrived, arrives, at_else, at_self, becomes_after, leads}
 use Rattle.explored_calls.proofs.Arrivals.{own_arrives}
@@ -57,13 +61,13 @@ use Rattle.explored_calls.proofs.WaitSteps
 use Rattle.explored_calls.proofs.Running.{in_line_so}
 
 module _ (program : Program) (is_program : IsProgram program) (covered : IsCovered program)
-    (given : Spot → ℕ) (objects : Objects) where
-  module _ (v : View program objects) (m : Running) (follows : Follows program m)
-      (fits : Fits program objects v m) (pid : ℕ) (low : pid < procs_of program) (number : ℕ)
-      (there : number < length program.values) where
+    (given : Spot → Given) (objects : Objects) where
+  module _ (v : View program objects) (pipes : List Direction) (m : Running)
+      (follows : Follows program pipes m) (fits : Fits program objects v m) (pid : ℕ)
+      (low : pid < procs_of program) (number : ℕ) (there : number < length program.values) where
     -- the explorer follows to this position
     abbrev Followed : View program objects → Type 0
-    Followed w = IsFollowed program objects w
+    Followed w = IsFollowed program objects pipes w
 
     -- where a process is after its call was told so
     abbrev gone : ProgramState Spot ObjectCall → Outcome ObjectReply → ProgramState Spot ObjectCall
@@ -78,7 +82,7 @@ module _ (program : Program) (is_program : IsProgram program) (covered : IsCover
 
     -- the process waits at no other object
     abbrev Elsewhere : Type 0
-    Elsewhere = IsElsewhere program objects v m fits pid low number there
+    Elsewhere = IsElsewhere program objects v pipes m fits pid low number there
 
     -- the position has units of this semaphore
     valued_low : number < length m.values
@@ -87,12 +91,11 @@ module _ (program : Program) (is_program : IsProgram program) (covered : IsCover
     module _ (spot : Spot) (by : spot.by ≡ pid) (line : Line)
         (line_is : slice_get program.lines spot.place ≡ Some line) where
       -- where an answer leads the process
-      lead : (on : Bool)
+      lead : (ends : Ending)
           → arrived program is_program covered given objects spot.by
-          (place_after on (slice_get program.lines spot.place) spot.place)
-          ≡ arrived program is_program covered given objects pid
-          (if on then line.next else line.other)
-      lead on = leads program is_program covered given objects spot pid line on by line_is
+          (place_after ends (slice_get program.lines spot.place) spot.place)
+          ≡ arrived program is_program covered given objects pid (after_ending line ends)
+      lead ends = leads program is_program covered given objects spot pid line ends by line_is
 
       -- ---- a semrelease
 
@@ -114,7 +117,7 @@ module _ (program : Program) (is_program : IsProgram program) (covered : IsCover
         idle_give : (at : ReleaseState) → v.state pid ≡ In spot (AtSema number (Gives count at))
             → stage_of (sema_state objects v.object number) pid ≡ Idle
         idle_give at is =
-            not_waiting program objects v m fits pid low number there
+            not_waiting program objects v pipes m fits pid low number there
             (In spot (AtSema number (Gives count at))) is refl
 
         -- its phase is one of a release
@@ -139,7 +142,7 @@ module _ (program : Program) (is_program : IsProgram program) (covered : IsCover
             (gone (In spot (AtSema number (Gives count (Waking sum seat grants)))) Outcome.Went)
             (v.notes pid))
         is_woken sum seat grants is phase =
-            alone_step program objects v m fits pid low number there m v.object
+            alone_step program objects v pipes m fits pid low number there m v.object
             (In spot (AtSema number (Gives count (Naming sum)))) (v.notes pid)
             (sema_state objects v.object number) (alike_self (sema_state objects v.object number))
             (becomes_itself program objects v.object number)
@@ -170,18 +173,19 @@ module _ (program : Program) (is_program : IsProgram program) (covered : IsCover
                 → gone (In spot (AtSema number (Gives count (Naming sum))))
                 (Outcome.Replied (BySema (UnitFacts.alone name)))
                 ≡ arrived program is_program covered given objects spot.by
-                (place_after true (slice_get program.lines spot.place) spot.place)
+                (place_after ending.Done (slice_get program.lines spot.place) spot.place)
                 → Followed (heard (Alone NextWake) (gone (In spot (AtSema number (Gives count
                 (Naming sum))))
                 (Outcome.Replied (BySema
                 (hold_answer (sema_state objects v.object number) (Alone NextWake))))))
             over name told goes_so =
-                by_reply program is_program covered given objects v m fits pid low number there
+                by_reply program is_program covered given objects v pipes m fits pid low number
+                there
                 (Alone NextWake) (UnitFacts.alone name)
                 (In spot (AtSema number (Gives count (Naming sum))))
                 (arrived program is_program covered given objects pid line.next)
-                (ap UnitFacts.alone told) (goes_so ∙ lead true)
-                (alone_step program objects v m fits pid low number there
+                (ap UnitFacts.alone told) (goes_so ∙ lead ending.Done)
+                (alone_step program objects v pipes m fits pid low number there
                 (goes (pending m pid (joined (m.notes pid) no_notes)) pid (Is
                 line.next)) (object_after objects v.object (OfSema number (Alone NextWake)))
                 (arrived program is_program covered given objects pid line.next) (v.notes pid)
@@ -196,7 +200,8 @@ module _ (program : Program) (is_program : IsProgram program) (covered : IsCover
                 (λ other apart. sym (at_else pid other (joined (m.notes pid) no_notes) m.notes
                 apart))
                 refl (λ sema. refl) (λ waits. idle_give (Naming sum) is) (before_give (Naming sum)
-                is) (WaitSteps.goes_on program m follows pid line.next no_notes (Is line.next) phase
+                is) (WaitSteps.goes_on program pipes m follows pid line.next no_notes (Is line.next)
+                phase
                 (goes_is program line.next)))
 
             by_answer : (name : SemaReply)
@@ -206,12 +211,13 @@ module _ (program : Program) (is_program : IsProgram program) (covered : IsCover
                 (Outcome.Replied (BySema
                 (hold_answer (sema_state objects v.object number) (Alone NextWake))))))
             by_answer (reply.Wake seat grants) told =
-                by_reply program is_program covered given objects v m fits pid low number there
+                by_reply program is_program covered given objects v pipes m fits pid low number
+                there
                 (Alone NextWake) (UnitFacts.alone (reply.Wake seat grants))
                 (In spot (AtSema number (Gives count (Naming sum))))
                 (In spot (AtSema number (Gives count (Waking sum seat grants))))
                 (ap UnitFacts.alone told) refl
-                (alone_step program objects v m fits pid low number there m
+                (alone_step program objects v pipes m fits pid low number there m
                 (object_after objects v.object (OfSema number (Alone NextWake)))
                 (In spot (AtSema number (Gives count (Waking sum seat grants)))) (v.notes pid)
                 (after (sema_state objects v.object number) NextWake)
@@ -231,7 +237,7 @@ module _ (program : Program) (is_program : IsProgram program) (covered : IsCover
             (is : v.state pid ≡ In spot (AtSema number (Gives count Releasing)))
             (phase : m.phase pid ≡ Is spot.place) where
           -- it is about to make its call
-          begins : Begins program m pid spot.place line
+          begins : Begins program pipes m pid spot.place line
           begins = record { low = low; phase_is = phase; line_is = line_is }
 
           -- the semaphore becomes what the release leaves
@@ -264,7 +270,7 @@ module _ (program : Program) (is_program : IsProgram program) (covered : IsCover
               other ≡ true
               → stands_for (want.Unit number) (m.phase other) ≡ true
           stood other less first =
-              sym (in_line_so program m follows (want.Unit number) other less)
+              sym (in_line_so program pipes m follows (want.Unit number) other less)
               ∙ stands_taken (slice_index m.values number + count) (m.line (want.Unit number))
               other first
 
@@ -393,12 +399,14 @@ module _ (program : Program) (is_program : IsProgram program) (covered : IsCover
               → Followed (heard (ReleaseAndNext count) state)
           taken_by state goes_as done own =
               record {
-                next = RunningSteps.released program m follows pid spot.place line begins number
+                next = RunningSteps.released program pipes m follows pid spot.place line begins
+                    number
                     (slice_index m.values number + count) goes_as;
-                follows = RunningSteps.releases program m follows pid spot.place line begins number
+                follows = RunningSteps.releases program pipes m follows pid spot.place line begins
+                    number
                     count goes_as done made (ap (nat_lt MAX_VALUE) units_are ∙ few);
                 fits = fits_next program objects v m
-                    (RunningSteps.released program m follows pid spot.place line begins number
+                    (RunningSteps.released program pipes m follows pid spot.place line begins number
                     (slice_index m.values number + count) goes_as) pid number t
                     (object_after objects v.object (OfSema number (ReleaseAndNext count))) state
                     (v.notes pid) fits low there becomes_t
@@ -475,22 +483,25 @@ module _ (program : Program) (is_program : IsProgram program) (covered : IsCover
                 (Outcome.Replied (BySema
                 (hold_answer (sema_state objects v.object number) (ReleaseAndNext count))))))
             by_answer (inl refused) =
-                by_reply program is_program covered given objects v m fits pid low number there
+                by_reply program is_program covered given objects v pipes m fits pid low number
+                there
                 (ReleaseAndNext count) (UnitFacts.alone reply.BadArg)
                 (In spot (AtSema number (Gives count Releasing)))
                 (arrived program is_program covered given objects pid line.next) refused.1.told_is
-                (lead true)
-                (goes_now program is_program covered given objects v m fits pid low number there
+                (lead ending.Done)
+                (goes_now program is_program covered given objects v pipes m fits pid low number
+                there
                 (ReleaseAndNext count) line.next (sema_state objects v.object number)
                 (alike_self (sema_state objects v.object number))
                 refused.1.after_is (idle_give Releasing is) (before_give Releasing is)
-                (RunningSteps.is_refused program m follows pid spot.place line
+                (RunningSteps.is_refused program pipes m follows pid spot.place line
                 (record { low = low; phase_is = phase; line_is = line_is }) number count (Is
                 line.next) (goes_is program line.next) made
                 (ap (λ (n : ℕ). nat_lt MAX_VALUE (n + count)) (fits.values number there) ∙
                 refused.0)))
             by_answer (inr (few, (name, t, answered, released))) =
-                by_reply program is_program covered given objects v m fits pid low number there
+                by_reply program is_program covered given objects v pipes m fits pid low number
+                there
                 (ReleaseAndNext count)
                 (record {
                   first = reply.Value ((sema_state objects v.object number).value + count);
@@ -521,7 +532,7 @@ module _ (program : Program) (is_program : IsProgram program) (covered : IsCover
                     (Served line.next no_notes) refl)
                 by_name other =
                     subst (λ (state : ProgramState Spot ObjectCall).
-                    Followed (heard (ReleaseAndNext count) state)) (sym (lead true))
+                    Followed (heard (ReleaseAndNext count) state)) (sym (lead ending.Done))
                     (taken_by t released answered.after_is few is phase
                     (arrived program is_program covered given objects pid line.next)
                     (Is line.next) (goes_is program line.next)

@@ -15,6 +15,7 @@ use Rattle.tag_space.specs.GroupObject.{place_of}
 use Rattle.space_machines.specs.SpaceEnds.{is_met}
 use Rattle.calls.specs.declared.process.Want.{Want}
 use Rattle.calls.specs.declared.process.Want.TheVariants as want
+use Rattle.calls.specs.Pipes.{Direction}
 use Rattle.calls.specs.Program.{IsProgram, Program, procs_of}
 use Rattle.call_machines.specs.Machine.{Outcome}
 use Rattle.call_machines.specs.Programs as machines
@@ -26,7 +27,7 @@ use Rattle.object_machines.specs.ObjectCalls.{ObjectCall, ObjectReply, ObjectSta
 use Rattle.object_machines.specs.ObjectCalls.{object_after, object_calls, sema_state}
 use Rattle.object_machines.specs.ObjectCalls.ObjectReply.{BySema}
 use Rattle.object_machines.specs.ObjectCalls.ObjectRequest.{OfSema}
-use Rattle.explored_calls.specs.LibraryCalls.{IsCovered, Spot, library_program}
+use Rattle.explored_calls.specs.LibraryCalls.{Given, IsCovered, Spot, library_program}
 use Rattle.explored_calls.proofs.Arrivals.{arrived, at_else, becomes_after, own_arrives}
 use Rattle.explored_calls.proofs.Fits.{Becomes, Fits, IsFollowed, IsPhase, View, fits_next}
 use Rattle.explored_calls.proofs.Fits.{granted_in, phase_same, sema_there, stepped, waits_at}
@@ -37,8 +38,9 @@ use Rattle.explored_calls.proofs.RunningSteps.{goes}
 use Rattle.explored_calls.proofs.UnitFacts.{IsAlike}
 
 module _ (program : Program) (objects : Objects) where
-  module _ (v : View program objects) (m : Running) (fits : Fits program objects v m) (pid : ℕ)
-      (low : pid < procs_of program) (number : ℕ) (there : number < length program.values) where
+  module _ (v : View program objects) (pipes : List Direction) (m : Running)
+      (fits : Fits program objects v m) (pid : ℕ) (low : pid < procs_of program) (number : ℕ)
+      (there : number < length program.values) where
     -- the process waits at no other object
     abbrev pub IsElsewhere : Type 0
     IsElsewhere =
@@ -64,8 +66,8 @@ module _ (program : Program) (objects : Objects) where
         what)
         → (waits_at program state number ≡ false → stage_of t pid ≡ Idle)
         → IsElsewhere
-        → Follows program next
-        → IsFollowed program objects (stepped program objects v pid object state notes)
+        → Follows program pipes next
+        → IsFollowed program objects pipes (stepped program objects v pid object state notes)
     own_step next t object state notes becomes long stages own phases notes_own notes_else counted
         value_here value_else line_here line_else idle before followed =
         record {
@@ -137,8 +139,8 @@ module _ (program : Program) (objects : Objects) where
         → (waits_at program state number ≡ false → stage_of (sema_state objects v.object number)
         pid ≡ Idle)
         → IsElsewhere
-        → Follows program next
-        → IsFollowed program objects (stepped program objects v pid object state notes)
+        → Follows program pipes next
+        → IsFollowed program objects pipes (stepped program objects v pid object state notes)
     alone_step next object state notes t alike becomes own phases notes_own notes_else values lines
         idle before followed =
         own_step next t object state notes becomes (ap length alike.stages)
@@ -160,9 +162,10 @@ module _ (program : Program) (objects : Objects) where
         (ap (λ (state : ProgramState Spot ObjectCall). waits_at program state number) is ∙ waits)
 
 module _ (program : Program) (is_program : IsProgram program) (covered : IsCovered program)
-    (given : Spot → ℕ) (objects : Objects) where
-  module _ (v : View program objects) (m : Running) (fits : Fits program objects v m) (pid : ℕ)
-      (low : pid < procs_of program) (number : ℕ) (there : number < length program.values) where
+    (given : Spot → Given) (objects : Objects) where
+  module _ (v : View program objects) (pipes : List Direction) (m : Running)
+      (fits : Fits program objects v m) (pid : ℕ) (low : pid < procs_of program) (number : ℕ)
+      (there : number < length program.values) where
     -- where a process is after its call was told so
     abbrev pub gone : ProgramState Spot ObjectCall → Outcome ObjectReply
         → ProgramState Spot ObjectCall
@@ -179,14 +182,14 @@ module _ (program : Program) (is_program : IsProgram program) (covered : IsCover
     pub by_reply : (hold : Hold) (told : HoldReply) (state now : ProgramState Spot ObjectCall)
         → hold_answer (sema_state objects v.object number) hold ≡ told
         → gone state (Outcome.Replied (BySema told)) ≡ now
-        → IsFollowed program objects (heard hold now)
-        → IsFollowed program objects (heard hold (gone state
+        → IsFollowed program objects pipes (heard hold now)
+        → IsFollowed program objects pipes (heard hold (gone state
         (Outcome.Replied (BySema (hold_answer (sema_state objects v.object number) hold)))))
     by_reply hold told state now told_is is followed =
-        subst (λ (reply : HoldReply). IsFollowed program objects
+        subst (λ (reply : HoldReply). IsFollowed program objects pipes
         (heard hold (gone state (Outcome.Replied (BySema
         reply))))) (sym told_is)
-        (subst (λ (state : ProgramState Spot ObjectCall). IsFollowed program objects
+        (subst (λ (state : ProgramState Spot ObjectCall). IsFollowed program objects pipes
         (heard hold state)) (sym is)
         followed)
 
@@ -195,12 +198,12 @@ module _ (program : Program) (is_program : IsProgram program) (covered : IsCover
         → IsAlike (sema_state objects v.object number) t
         → hold_after (sema_state objects v.object number) hold ≡ t
         → stage_of (sema_state objects v.object number) pid ≡ Idle
-        → IsElsewhere program objects v m fits pid low number there
-        → Follows program (goes m pid (Is to))
-        → IsFollowed program objects
+        → IsElsewhere program objects v pipes m fits pid low number there
+        → Follows program pipes (goes m pid (Is to))
+        → IsFollowed program objects pipes
         (heard hold (arrived program is_program covered given objects pid to))
     goes_now hold to t alike after idle before followed =
-        alone_step program objects v m fits pid low number there (goes m pid (Is to))
+        alone_step program objects v pipes m fits pid low number there (goes m pid (Is to))
         (object_after objects v.object (OfSema number hold))
         (arrived program is_program covered given objects pid to) (v.notes pid) t alike
         (becomes_after program is_program covered given objects v.object number hold _

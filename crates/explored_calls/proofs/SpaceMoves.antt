@@ -25,9 +25,13 @@ use Rattle.space_machines.specs.MeetMachine.MeetState.{Calls}
 use Rattle.space_machines.specs.MeetMachine.MeetState.{Waking as WakesPartner}
 use Rattle.space_machines.specs.SpaceEnds.{is_met}
 use Rattle.calls.specs.declared.call.Call.TheVariants as call
+use Rattle.calls.specs.declared.ending.Ending.{Ending}
+use Rattle.calls.specs.declared.ending.Ending.TheVariants as ending
 use Rattle.calls.specs.declared.line.Line.{Line}
 use Rattle.calls.specs.declared.process.Want.{Want}
 use Rattle.calls.specs.declared.process.Want.TheVariants as want
+use Rattle.calls.specs.Lines.{after_ending}
+use Rattle.calls.specs.Pipes.{Direction}
 use Rattle.calls.specs.Program.{IsProgram, Program, procs_of}
 use Rattle.call_machines.specs.Machine.{Outcome}
 use Rattle.call_machines.specs.Programs as machines
@@ -40,7 +44,7 @@ use Rattle.object_machines.specs.ObjectCalls.ObjectCall.{InSpace}
 use Rattle.object_machines.specs.ObjectCalls.ObjectReply.{BySpace}
 use Rattle.object_machines.specs.ObjectCalls.ObjectRequest.{OfSpace}
 use Rattle.object_machines.specs.ObjectEnds.{is_space_unworn}
-use Rattle.explored_calls.specs.LibraryCalls.{IsCovered, Spot, library_program, place_after}
+use Rattle.explored_calls.specs.LibraryCalls.{IsCovered, Given, Spot, library_program, place_after}
 use Rattle.explored_calls.proofs.Arrivals.{arrived, at_else, at_self, leads, own_arrives}
 use Rattle.explored_calls.proofs.Fits.{Fits, IsFollowed, IsPhase, MeetPhase, View, granted_in}
 use Rattle.explored_calls.proofs.Fits.{is_meeting, line_of, stepped, waits_at, waits_in_space}
@@ -64,14 +68,15 @@ use Rattle.explored_calls.proofs.SpaceFits.{phase_stays, stands_alone, with_spac
 use Rattle.explored_calls.proofs.WaitSteps
 
 module _ (program : Program) (is_program : IsProgram program) (covered : IsCovered program)
-    (given : Spot → ℕ) (objects : Objects) where
-  module _ (v : View program objects) (m : Running) (follows : Follows program m)
+    (given : Spot → Given) (objects : Objects) where
+  module _ (v : View program objects) (pipes : List Direction) (m : Running) (follows : Follows
+      program pipes m)
       (fits : Fits program objects v m) (pid : ℕ) (low : pid < procs_of program) (spot : Spot)
       (by : spot.by ≡ pid) (line : Line) (line_is : slice_get program.lines spot.place ≡ Some line)
       (offered : Offered) (made : line.call ≡ call.Rendezvous offered.tag.0 None) where
     -- the explorer comes to this position
     abbrev Followed : View program objects → Type 0
-    Followed w = IsFollowed program objects w
+    Followed w = IsFollowed program objects pipes w
 
     -- a state of the rendezvous
     abbrev meets_at : MeetState → ProgramState Spot ObjectCall
@@ -115,12 +120,12 @@ module _ (program : Program) (is_program : IsProgram program) (covered : IsCover
     member_low = let room = fits.space in omega (arith, low)
 
     -- where an answer leads the process
-    lead : (on : Bool)
+    lead : (ends : Ending)
         → arrived program is_program covered given objects spot.by
-        (place_after on (slice_get program.lines spot.place) spot.place)
+        (place_after ends (slice_get program.lines spot.place) spot.place)
         ≡ arrived program is_program covered given objects pid
-        (if on then line.next else line.other)
-    lead on = leads program is_program covered given objects spot pid line on by line_is
+        (after_ending line ends)
+    lead ends = leads program is_program covered given objects spot pid line ends by line_is
 
     -- a reply that is known, and what it leaves
     by_reply : (request : GroupCall) (told : GroupReply) (places : List Place)
@@ -141,7 +146,7 @@ module _ (program : Program) (is_program : IsProgram program) (covered : IsCover
 
     -- a move that changes nothing of the others
     by_alone : (next : Running) (places : List Place) (state : ProgramState Spot ObjectCall)
-        (notes : NoteSet) → Follows program next
+        (notes : NoteSet) → Follows program pipes next
         → OwesAlone program objects v m next pid places state notes
         → Followed (moved_to places state notes)
     by_alone next places state notes followed owes =
@@ -214,7 +219,7 @@ module _ (program : Program) (is_program : IsProgram program) (covered : IsCover
         step : (next : Running) (held : Phase) (met : Bool) → met_now ≡ met
             → IsSo met (Calls (Leaving (fault.Interrupted (v.notes pid)))) held
             → next.phase ≡ at_one pid held m.phase → next.notes ≡ at_one pid no_notes m.notes
-            → next.values ≡ m.values → next.line ≡ m.line → Follows program next
+            → next.values ≡ m.values → next.line ≡ m.line → Follows program pipes next
             → Followed (moved_to v.object.space
             (meets_at (Calls (Leaving (fault.Interrupted (v.notes pid))))) no_notes)
         step next held met granted holds phases notes values lines followed =
@@ -250,10 +255,10 @@ module _ (program : Program) (is_program : IsProgram program) (covered : IsCover
             let served : m.phase pid ≡ Served line.next no_notes =
             phase ∙ ap (λ (met : Bool). if met then Served line.next no_notes
             else InLine spot.place (want.Partner offered.tag.0)) granted in
-            step (WaitSteps.holding program m follows pid line.next)
+            step (WaitSteps.holding program pipes m follows pid line.next)
             (Served line.next (m.notes pid)) true granted
             (ap (λ (set : NoteSet). Served line.next set) (sym same_notes)) refl refl refl refl
-            (WaitSteps.holds_notes program m follows pid line.next served)
+            (WaitSteps.holds_notes program pipes m follows pid line.next served)
         by_met false granted =
             let waits : m.phase pid ≡ InLine spot.place (want.Partner offered.tag.0) =
             phase ∙ ap (λ (met : Bool). if met then Served line.next no_notes
@@ -262,7 +267,7 @@ module _ (program : Program) (is_program : IsProgram program) (covered : IsCover
             (Noted spot.place (want.Partner offered.tag.0) (m.notes pid)) false granted
             (ap (λ (set : NoteSet). Noted spot.place (want.Partner offered.tag.0) set)
             (sym same_notes)) refl refl refl refl
-            (WaitSteps.notes_end program m follows pid spot.place (want.Partner offered.tag.0)
+            (WaitSteps.notes_end program pipes m follows pid spot.place (want.Partner offered.tag.0)
             line low line_is waits (ap has_notes (sym same_notes) ∙ some))
 
     -- ---- where its call is over
@@ -342,10 +347,10 @@ module _ (program : Program) (is_program : IsProgram program) (covered : IsCover
             phase ∙ ap (λ (go : Bool). if go then Served line.next no_notes
             else InLine spot.place (want.Partner offered.tag.0)) met.met in
             by_reply (Collect pid) (reply.WasMet met.given) rested (meets_at (Calls Asking))
-            (on_to line.next) met.told_is met.after_is (lead true)
+            (on_to line.next) met.told_is met.after_is (lead ending.Done)
             (by_alone (goes (pending m pid (joined (m.notes pid) no_notes)) pid (Is line.next))
             rested (on_to line.next) (v.notes pid)
-            (WaitSteps.goes_on program m follows pid line.next no_notes (Is line.next) served
+            (WaitSteps.goes_on program pipes m follows pid line.next no_notes (Is line.next) served
             (goes_is program line.next))
             (record {
               long = rests_long;
@@ -395,7 +400,7 @@ module _ (program : Program) (is_program : IsProgram program) (covered : IsCover
     waits_there set noted =
         stands_alone (waiter_of v.object.space offered.tag.0) pid
         (ap (λ (l : List ℕ). stands_in l pid) (sym (fits.tags offered.tag.0))
-        ∙ (in_line_so program m follows (want.Partner offered.tag.0) pid low
+        ∙ (in_line_so program pipes m follows (want.Partner offered.tag.0) pid low
         ∙ (ap (λ (p : Phase). is_for (want.Partner offered.tag.0) (waits_by p false)) noted
         ∙ itself (want.Partner offered.tag.0))))
 
@@ -438,10 +443,11 @@ module _ (program : Program) (is_program : IsProgram program) (covered : IsCover
             else Noted spot.place (want.Partner offered.tag.0) set) unmet.unmet in
             by_reply (Leave pid) reply.Gone rested
             (meets_at (Calls (Leaving (fault.Interrupted set)))) (on_to line.other)
-            unmet.told_is unmet.after_is (lead false)
+            unmet.told_is unmet.after_is (lead ending.Interrupted)
             (by_alone (leaving m pid (Is line.other) (want.Partner offered.tag.0)) rested
             (on_to line.other) (v.notes pid)
-            (WaitSteps.leaves program m follows pid spot.place (want.Partner offered.tag.0) line
+            (WaitSteps.leaves program pipes m follows pid spot.place (want.Partner offered.tag.0)
+            line
             low line_is set (Is line.other) noted (goes_is program line.other))
             (record {
               long = rests_long;
@@ -473,7 +479,7 @@ module _ (program : Program) (is_program : IsProgram program) (covered : IsCover
     goes_so at set now is out served notes_are =
         by_alone (goes (pending m pid (joined (m.notes pid) set)) pid (Is line.next))
         v.object.space (on_to line.next) now
-        (WaitSteps.goes_on program m follows pid line.next set (Is line.next) served
+        (WaitSteps.goes_on program pipes m follows pid line.next set (Is line.next) served
         (goes_is program line.next))
         (record {
           long = refl;
@@ -500,7 +506,8 @@ module _ (program : Program) (is_program : IsProgram program) (covered : IsCover
         (gone (meets_at (Calls (Returning set out))) Outcome.Went) (joined (v.notes pid) set))
     returns set out is served =
         subst (λ (state : ProgramState Spot ObjectCall).
-        Followed (moved_to v.object.space state (joined (v.notes pid) set))) (sym (lead true))
+        Followed (moved_to v.object.space state (joined (v.notes pid) set))) (sym (lead
+        ending.Done))
         (goes_so (Calls (Returning set out)) set (joined (v.notes pid) set) is refl served refl)
 
     -- it woke its partner
@@ -510,7 +517,7 @@ module _ (program : Program) (is_program : IsProgram program) (covered : IsCover
         (gone (meets_at (WakesPartner found)) Outcome.Went) (v.notes pid))
     wakes_partner found is served =
         subst (λ (state : ProgramState Spot ObjectCall).
-        Followed (moved_to v.object.space state (v.notes pid))) (sym (lead true))
+        Followed (moved_to v.object.space state (v.notes pid))) (sym (lead ending.Done))
         (goes_so (WakesPartner found) no_notes (v.notes pid) is refl served
         (sym (joined_none (v.notes pid))))
 
@@ -522,7 +529,7 @@ module _ (program : Program) (is_program : IsProgram program) (covered : IsCover
       idle_now = fits.out pid low (ap (waits_in_space program) is)
 
       -- it is about to make its call
-      begins : Begins program m pid spot.place line
+      begins : Begins program pipes m pid spot.place line
       begins = record { low = low; phase_is = phase; line_is = line_is }
 
       -- it waits, where nobody waits with its tag
@@ -533,7 +540,7 @@ module _ (program : Program) (is_program : IsProgram program) (covered : IsCover
           by_alone (waiting m pid spot.place (want.Partner offered.tag.0))
           (put v.object.space pid (Waiting offered.tag offered.value) count)
           (meets_at (Calls (Waits count))) (v.notes pid)
-          (RunningSteps.waits_for_partner program m follows pid spot.place line begins
+          (RunningSteps.waits_for_partner program pipes m follows pid spot.place line begins
           offered.tag.0 made (fits.tags offered.tag.0 ∙ ap line_of none))
           (record {
             long = length-set v.object.space pid _;
@@ -662,7 +669,7 @@ module _ (program : Program) (is_program : IsProgram program) (covered : IsCover
 
             stood : stands_for (want.Partner offered.tag.0) (m.phase other) ≡ true
             stood =
-                sym (in_line_so program m follows (want.Partner offered.tag.0) other less)
+                sym (in_line_so program pipes m follows (want.Partner offered.tag.0) other less)
                 ∙ stands_taken 1 (m.line (want.Partner offered.tag.0)) other first
 
         -- how the others go
@@ -721,7 +728,7 @@ module _ (program : Program) (is_program : IsProgram program) (covered : IsCover
         meets_now =
             record {
               next = next;
-              follows = RunningSteps.meets program m follows pid spot.place line begins
+              follows = RunningSteps.meets program pipes m follows pid spot.place line begins
                   offered.tag.0 found.waiter [] (Served line.next no_notes)
                   (goes_served program line.next) made line_now;
               fits = fits_space program objects v m next pid met_places

@@ -2,6 +2,9 @@
 -- answer `ends` says of the library's calls.
 use Rattle.std.proofs.Common.{◌≡◌, ℕ, zero, suc, Bool, true, false, List, [], ◌∷◌, Some, None}
 use Rattle.std.proofs.Common.{codes, refl, subst}
+use Rattle.std.specs.Prelude.{slice_get}
+use Rattle.sync_base.specs.declared.mode.Mode.{Mode}
+use Rattle.sync_base.specs.declared.mode.Mode.TheVariants.{Message, Stream}
 use Rattle.searches.specs.declared.order.Order.TheVariants as order
 use Rattle.searches.specs.declared.verdict.Verdict.TheVariants as verdict
 use Rattle.searches.specs.Verdict.{HoldsIn}
@@ -9,7 +12,7 @@ use Rattle.calls.specs.declared.call.Call.{Call}
 use Rattle.calls.specs.declared.call.Call.TheVariants as call
 use Rattle.calls.specs.declared.line.Line.{Line}
 use Rattle.calls.specs.Machine.{system_of}
-use Rattle.calls.specs.Program.{Program}
+use Rattle.calls.specs.Program.{Program, is_stream_at}
 use Rattle.explored_calls.specs.LibraryCalls.{IsCovered, IsCoveredCall}
 use Rattle.p9explore.specs.ExploredScripts.{ExploredScriptsEnd, NoCoveredRunDeadlocks}
 use Rattle.p9explore.specs.ExploredScripts.{calls_spelled}
@@ -49,18 +52,22 @@ its_calls =
 it_spells_them : calls_spelled one_lock ≡ Some its_calls
 it_spells_them = refl
 
--- each of these calls is covered
+-- each of these calls is covered, and no direction is a stream
 they_are_covered : IsCovered its_calls
-they_are_covered zero one is =
-    let same : line (call.Acquire 0 None) 1 false ≡ one = cc in
-    subst (λ (l : Line). IsCoveredCall l.call) same tt
-they_are_covered (suc zero) one is =
-    let same : line (call.Release 0 1) 3 false ≡ one = cc in
-    subst (λ (l : Line). IsCoveredCall l.call) same tt
-they_are_covered (suc (suc zero)) one is =
-    let same : line (call.Acquire 0 None) 3 false ≡ one = cc in
-    subst (λ (l : Line). IsCoveredCall l.call) same tt
-they_are_covered (suc (suc (suc more))) one is = absurd cc
+they_are_covered = record { calls = each; messages = λ pipe. refl }
+  where
+    each : (place : ℕ) (one : Line) → slice_get its_calls.lines place ≡ Some one
+        → IsCoveredCall one.call
+    each zero one is =
+        let same : line (call.Acquire 0 None) 1 false ≡ one = cc in
+        subst (λ (l : Line). IsCoveredCall l.call) same tt
+    each (suc zero) one is =
+        let same : line (call.Release 0 1) 3 false ≡ one = cc in
+        subst (λ (l : Line). IsCoveredCall l.call) same tt
+    each (suc (suc zero)) one is =
+        let same : line (call.Acquire 0 None) 3 false ≡ one = cc in
+        subst (λ (l : Line). IsCoveredCall l.call) same tt
+    each (suc (suc (suc more))) one is = absurd cc
 
 -- So where the answer is `ends`, the law says of its calls that none of their runs deadlocks.
 no_run_of_them_deadlocks : ExploredScriptsEnd → (most states : ℕ)
@@ -68,6 +75,47 @@ no_run_of_them_deadlocks : ExploredScriptsEnd → (most states : ℕ)
     → NoCoveredRunDeadlocks its_calls
 no_run_of_them_deadlocks law most states ends =
     law one_lock its_calls order.Shortest most states it_spells_them ends
+
+-- ---- messages
+
+-- one process reads a message of a direction, and the other writes one and hangs up
+abbrev one_pipe : List ℕ
+one_pipe =
+    codes "world 2 1\npipe 1\nprocess 0\nread 0 4\nprocess 1\nwrite 0 61\nhangup 0\n"
+
+abbrev with_a_pipe : Mode → Program
+with_a_pipe mode =
+    record {
+      lines = line (call.Read 0 4 None) 3 false
+          ∷ line (call.Write 0 1 None) 2 false
+          ∷ line (call.Hangup 0) 3 false
+          ∷ [];
+      starts = 0 ∷ 1 ∷ [];
+      values = [];
+      pipes = record { limit = 1; mode = mode } ∷ [];
+      rendez = 1;
+    }
+
+it_spells_messages : calls_spelled one_pipe ≡ Some (with_a_pipe Message)
+it_spells_messages = refl
+
+-- its calls are covered,
+a_read_is_covered : IsCoveredCall (call.Read 0 4 None)
+a_read_is_covered = tt
+
+a_write_is_covered : IsCoveredCall (call.Write 0 1 None)
+a_write_is_covered = tt
+
+a_hangup_is_covered : IsCoveredCall (call.Hangup 0)
+a_hangup_is_covered = tt
+
+-- and so is it, but not where the direction is read as a stream
+they_are_messages : (pipe : ℕ) → is_stream_at (with_a_pipe Message) pipe ≡ false
+they_are_messages zero = refl
+they_are_messages (suc pipe) = refl
+
+a_stream_is_not_covered : ¬ (IsCovered (with_a_pipe Stream))
+a_stream_is_not_covered covered = let none = covered.messages 0 in cc
 
 -- ---- a script with blocks
 
@@ -97,7 +145,7 @@ it_is_spelled : calls_spelled (codes "world 1 1\nprocess 0\nnever both\n") ≡ S
 it_is_spelled = refl
 
 it_is_not_covered : ¬ (IsCovered with_a_never)
-it_is_not_covered covered = covered 1 (line call.Never 2 false) refl
+it_is_not_covered covered = covered.calls 1 (line call.Never 2 false) refl
 
 -- ---- what is no script
 

@@ -10,8 +10,8 @@ use Rattle.call_machines.specs.Programs.{rests_at}
 use Rattle.call_machines.specs.Replies.{SuchStopAtRest}
 use Rattle.object_machines.specs.ObjectCalls.{Objects}
 use Rattle.object_machines.specs.ObjectEnds.{LeavesUnworn}
-use Rattle.explored_calls.specs.LibraryCalls.{AreItsObjects, IsCovered, Spot, is_at_head}
-use Rattle.explored_calls.specs.LibraryCalls.{library_of}
+use Rattle.explored_calls.specs.LibraryCalls.{AreItsObjects, Given, HaveEnds, IsCovered, Spot}
+use Rattle.explored_calls.specs.LibraryCalls.{is_at_head, library_of}
 use Rattle.p9explore.specs.declared.asked.Asked.{Asked}
 use Rattle.p9explore.specs.declared.run.TheConstants.{GOOD}
 use Rattle.p9explore.specs.Answering.{Ends, IsInput}
@@ -45,14 +45,15 @@ ScriptsCanBeMade =
 -- ---- what `ends` says
 
 -- No run of the library's calls that a program of covered calls makes deadlocks, whatever values
--- are given and at whatever objects that are the program's: where such a run has stopped, each
--- process has ended or waits at the head of its loop. This is of runs in which no number of a
--- device is worn out.
+-- are given and at whatever objects that are the program's, where each process has the ends of
+-- pipes by which it calls: where such a run has stopped, each process has ended or waits at the
+-- head of its loop. This is of runs in which no number of a device is worn out.
 abbrev pub NoCoveredRunDeadlocks : Program → Type 0
 NoCoveredRunDeadlocks program =
-    (given : Spot → ℕ) (objects : Objects)
+    (given : Spot → Given) (objects : Objects)
     → IsCovered program
     → AreItsObjects program objects
+    → HaveEnds program given objects
     → SuchStopAtRest (library_of program given objects) LeavesUnworn
     (λ state. rests_at (is_at_head program) state ≡ true)
 

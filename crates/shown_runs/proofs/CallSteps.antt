@@ -24,11 +24,13 @@ use Rattle.semaphore.specs.Units.{stage_of}
 use Rattle.semaphore.specs.WaitQueue.{without}
 use Rattle.calls.specs.declared.call.Call.{Call}
 use Rattle.calls.specs.declared.call.Call.TheVariants as call
+use Rattle.calls.specs.declared.ending.Ending.TheVariants as ending
+use Rattle.calls.specs.declared.ending.Ending.{Ending}
 use Rattle.calls.specs.declared.line.Line.{Line}
-use Rattle.calls.specs.declared.process.Want.{Want}
 use Rattle.calls.specs.declared.process.Want.TheVariants as want
 use Rattle.calls.specs.Calls.{can_call}
 use Rattle.calls.specs.Program.{IsProgram, Program, procs_of, sizes_of}
+use Rattle.calls.specs.Lines.{after_ending}
 use Rattle.call_machines.specs.Machine.{Next, Outcome}
 use Rattle.call_machines.specs.Programs as machines
 use Rattle.call_machines.specs.Programs.{ProgramState}
@@ -47,10 +49,12 @@ use Rattle.object_machines.specs.ObjectCalls.ObjectRequest.{OfSema}
 use Rattle.object_machines.specs.ObjectEnds.{is_sema_unworn}
 use Rattle.explored_calls.specs.LibraryCalls.{AreItsObjects, Spot, call_by, call_in, library_of}
 use Rattle.explored_calls.specs.LibraryCalls.{library_program, place_after, spot_in, starts_from}
+use Rattle.explored_calls.specs.LibraryCalls.{Given}
 use Rattle.explored_calls.proofs.Lists.{at_one}
-use Rattle.explored_calls.proofs.Queued.{Queued, gives_up, is_for, itself, joins}
+use Rattle.explored_calls.proofs.Queued.{Halt, Queued, gives_up, is_for, itself, joins}
 use Rattle.explored_calls.proofs.UnitFacts
 use Rattle.explored_calls.proofs.UnitFacts.{Answered}
+use Rattle.explored_calls.proofs.Queued.Halt.{For, Free}
 use Rattle.shown_runs.specs.ShownRuns.{arrived, rendez_at, spot_of}
 use Rattle.shown_runs.proofs.Acts.{Here, Known, Leads, Stays, asks, falls_asleep, is_noted, on}
 use Rattle.shown_runs.proofs.Acts.{with_state}
@@ -135,7 +139,7 @@ waits_so s seat low idle none fresh =
     rw (may, none, not_last) refl in
     record { told_is = ap UnitFacts.alone told; after_is = ap (sema_after s (Acquire seat)) told }
 
-module _ (program : Program) (given : Spot → ℕ) (objects : Objects) where
+module _ (program : Program) (given : Spot → Given) (objects : Objects) where
   -- a process that has not made its call begins it so
   pub at_call : (pid place : ℕ) (line : Line) (made : Call)
       → slice_get program.lines place ≡ Some line → line.call ≡ made
@@ -149,12 +153,12 @@ module _ (program : Program) (given : Spot → ℕ) (objects : Objects) where
       ∙ ap (λ (c : Call). In (spot_of pid place) (call_by pid (given (spot_of pid place)) c)) is)
 
   -- the place that an answer leads to
-  pub leads_to : (pid place : ℕ) (line : Line) (way : Bool)
+  pub leads_to : (pid place : ℕ) (line : Line) (ends : Ending)
       → slice_get program.lines place ≡ Some line
-      → arrived program given objects pid (place_after way (slice_get program.lines place) place)
-      ≡ arrived program given objects pid (if way then line.next else line.other)
-  leads_to pid place line way there =
-      ap (λ (found : Option Line). arrived program given objects pid (place_after way found place))
+      → arrived program given objects pid (place_after ends (slice_get program.lines place) place)
+      ≡ arrived program given objects pid (after_ending line ends)
+  leads_to pid place line ends there =
+      ap (λ (found : Option Line). arrived program given objects pid (place_after ends found place))
       there
 
   -- the library has as many processes as the program
@@ -232,16 +236,16 @@ module _ (program : Program) (given : Spot → ℕ) (objects : Objects) where
         program)
       where
         -- one that waits for nothing has not made its call
-        pub idle_of : q.waits pid ≡ None → IsIdle program given objects at pid (q.place pid)
+        pub idle_of : q.waits pid ≡ Free → IsIdle program given objects at pid (q.place pid)
         idle_of none =
-            subst (λ (w : Option Want). StandsBy program given objects at pid (q.place pid) w) none
+            subst (λ (w : Halt). StandsBy program given objects at pid (q.place pid) w) none
             (quiet.each pid low).stands
 
         -- what the world has of one that waits for this
-        pub rests_of : (waits : Option Want) → q.waits pid ≡ waits
+        pub rests_of : (waits : Halt) → q.waits pid ≡ waits
             → Rests program given objects at pid waits Waiting (q.notes pid) most
         rests_of waits is =
-            subst (λ (w : Option Want). Rests program given objects at pid w Waiting (q.notes pid)
+            subst (λ (w : Halt). Rests program given objects at pid w Waiting (q.notes pid)
             most) is (quiet.each pid low).rests
 
         -- what is known of one that is about to make its call
@@ -258,7 +262,7 @@ module _ (program : Program) (given : Spot → ℕ) (objects : Objects) where
             }
 
         -- this is known of one that has not made its call
-        pub known_idle : q.waits pid ≡ None → (r : ℕ) (state : ProgramState Spot ObjectCall)
+        pub known_idle : q.waits pid ≡ Free → (r : ℕ) (state : ProgramState Spot ObjectCall)
             → arrived program given objects pid (q.place pid) ≡ state
             → Known (such_calls program given objects) pid pid r (begins state r) at
         known_idle none r state is =
@@ -282,7 +286,7 @@ module _ (program : Program) (given : Spot → ℕ) (objects : Objects) where
           -- the process is at this place now
           pub place : now.place pid ≡ to
           -- it waits for nothing there
-          pub waits : now.waits pid ≡ None
+          pub waits : now.waits pid ≡ Free
           -- it keeps the notes that it has
           pub notes : now.notes pid ≡ q.notes pid
           -- the semaphore is as the explorer has it
@@ -300,7 +304,7 @@ module _ (program : Program) (given : Spot → ℕ) (objects : Objects) where
         -- a call that one request makes, which grants nobody a unit and lets nobody wait
         pub goes_by_request : (now : Queued) (sema to : ℕ) (t : SemaState) (hold : Hold)
             (told : HoldReply) (state : ProgramState Spot ObjectCall)
-            → sema < length program.values → q.waits pid ≡ None
+            → sema < length program.values → q.waits pid ≡ Free
             → arrived program given objects pid (q.place pid) ≡ state
             → Answered (sema_at program given objects at sema) hold told t
             → is_sema_unworn told.first ≡ true
@@ -324,9 +328,9 @@ module _ (program : Program) (given : Spot → ℕ) (objects : Objects) where
                     seats = λ other below apart. seats other below;
                     own = subst (λ (n : ℕ). Stands program given objects led.next pid n
                         (now.waits pid) (now.notes pid) (suc most)) (sym leads.place)
-                        (subst (λ (w : Option Want). Stands program given objects led.next pid to w
+                        (subst (λ (w : Halt). Stands program given objects led.next pid to w
                         (now.notes pid) (suc most)) (sym leads.waits)
-                        (subst (λ (s : NoteSet). Stands program given objects led.next pid to None s
+                        (subst (λ (s : NoteSet). Stands program given objects led.next pid to Free s
                         (suc most)) (sym leads.notes) own));
                     others = leads.others;
                     lined = leads.lined;
@@ -354,7 +358,7 @@ module _ (program : Program) (given : Spot → ℕ) (objects : Objects) where
                 changed_after at led.next sema hold t (rw quiet.many there) led.known.now.object_is
                 answered.after_is
 
-            own : Stands program given objects led.next pid to None (q.notes pid) (suc most)
+            own : Stands program given objects led.next pid to Free (q.notes pid) (suc most)
             own =
                 record {
                   stands = record {
@@ -363,8 +367,8 @@ module _ (program : Program) (given : Spot → ℕ) (objects : Objects) where
                         state (Outcome.Replied (BySema r))) answered.told_is ∙ goes);
                     phase_is = led.known.now.phase_is;
                   };
-                  rests = rests_still program given objects at led.next pid None Waiting
-                      (q.notes pid) (q.notes pid) most (suc most) (rests_of None none)
+                  rests = rests_still program given objects at led.next pid Free Waiting
+                      (q.notes pid) (q.notes pid) most (suc most) (rests_of Free none)
                       (λ other less. frame_words at led.next sema pid other t
                       (every _ _ _ led.stays.posted led.known.now.posted_is)
                       (every _ _ _ led.stays.levels led.known.now.level_is) changed (λ same. seats
@@ -388,7 +392,7 @@ module _ (program : Program) (given : Spot → ℕ) (objects : Objects) where
 
           -- one that waits at another semaphore does not wait at this one
           out_of_line : (other : ℕ) → other ≢ sema
-              → is_for (want.Unit other) (Some (want.Unit sema)) ≡ false
+              → is_for (want.Unit other) (For (want.Unit sema)) ≡ false
           out_of_line other apart = apart_numbers other sema (λ same. apart (sym same))
 
           -- acts at the semaphore leave what the process has at the others
@@ -405,13 +409,13 @@ module _ (program : Program) (given : Spot → ℕ) (objects : Objects) where
 
           -- ---- a semacquire that waits
 
-          module _ (line : Line) (none : q.waits pid ≡ None)
+          module _ (line : Line) (none : q.waits pid ≡ Free)
               (line_is : slice_get program.lines (q.place pid) ≡ Some line)
               (made : line.call ≡ call.Acquire sema None)
               (empty : nat_lt 0 (sema_at program given objects at sema).value ≡ false)
               (fresh : most < LAST_GRANT) where
-            rests : Rests program given objects at pid None Waiting (q.notes pid) most
-            rests = rests_of None none
+            rests : Rests program given objects at pid Free Waiting (q.notes pid) most
+            rests = rests_of Free none
 
             worn_not : grants_of (sema_at program given objects at sema) pid < LAST_GRANT
             worn_not = let few = rests.few sema there in omega arith
@@ -468,7 +472,7 @@ module _ (program : Program) (given : Spot → ℕ) (objects : Objects) where
                 asleep.known.now.object_is waits.after_is
 
             sleeps : Stands program given objects asleep.next pid (q.place pid)
-                (Some (want.Unit sema)) (q.notes pid) (suc most)
+                (For (want.Unit sema)) (q.notes pid) (suc most)
             sleeps =
                 record {
                   stands = record {
@@ -483,8 +487,8 @@ module _ (program : Program) (given : Spot → ℕ) (objects : Objects) where
                         ∙ ap (λ (s : SemaState). phase.Asleep (rendez_at objects sema pid)
                         (grants_of s pid)) (sym changed.here);
                   };
-                  rests = rests_own program given objects at asleep.next pid sema None
-                      (Some (want.Unit sema)) Waiting Waiting (q.notes pid) (q.notes pid) most
+                  rests = rests_own program given objects at asleep.next pid sema Free
+                      (For (want.Unit sema)) Waiting Waiting (q.notes pid) (q.notes pid) most
                       (suc most) rests (beside asleep.next _ asleep.stays changed)
                       (λ other apart. refl) out_of_line
                       (record {
@@ -526,13 +530,13 @@ module _ (program : Program) (given : Spot → ℕ) (objects : Objects) where
                               other Waiting Idle apart;
                           grants = refl;
                         };
-                        own = subst (λ (w : Option Want). Stands program given objects asleep.next
+                        own = subst (λ (w : Halt). Stands program given objects asleep.next
                             pid
                             (q.place pid) w (q.notes pid) (suc most))
-                            (sym (at_self pid (Some (want.Unit sema)) q.waits)) sleeps;
+                            (sym (at_self pid (For (want.Unit sema)) q.waits)) sleeps;
                         others = λ other apart. record {
                           place = refl;
-                          waits = at_else pid other (Some (want.Unit sema)) q.waits apart;
+                          waits = at_else pid other (For (want.Unit sema)) q.waits apart;
                           notes = refl;
                         };
                         lined = record {
@@ -553,16 +557,16 @@ module _ (program : Program) (given : Spot → ℕ) (objects : Objects) where
 
           -- ---- a wait that notes end
 
-          module _ (line : Line) (waits : q.waits pid ≡ Some (want.Unit sema))
+          module _ (line : Line) (waits : q.waits pid ≡ For (want.Unit sema))
               (line_is : slice_get program.lines (q.place pid) ≡ Some line)
               (noted : has_notes (q.notes pid) ≡ true) where
-            waits_there : Rests program given objects at pid (Some (want.Unit sema)) Waiting
+            waits_there : Rests program given objects at pid (For (want.Unit sema)) Waiting
                 (q.notes pid) most
-            waits_there = rests_of (Some (want.Unit sema)) waits
+            waits_there = rests_of (For (want.Unit sema)) waits
 
             stands_there : IsAsleep program given objects at pid (q.place pid) sema
             stands_there =
-                subst (λ (w : Option Want). StandsBy program given objects at pid (q.place pid) w)
+                subst (λ (w : Halt). StandsBy program given objects at pid (q.place pid) w)
                 waits (quiet.each pid low).stands
 
             -- what is known of it
@@ -659,7 +663,7 @@ module _ (program : Program) (given : Spot → ℕ) (objects : Objects) where
                 changed_after at away.next sema (Alone (Leave pid)) _ semas_there
                 away.known.now.object_is goes_away.after_is
 
-            idle_there : Stands program given objects away.next pid line.other None no_notes
+            idle_there : Stands program given objects away.next pid line.other Free no_notes
                 (suc most)
             idle_there =
                 record {
@@ -670,11 +674,11 @@ module _ (program : Program) (given : Spot → ℕ) (objects : Objects) where
                         (In (spot_of pid (q.place pid)) (AtSema sema (Takes pid
                         (Leaving (fault.Interrupted (q.notes pid))))))
                         (Outcome.Replied (BySema told))) goes_away.told_is
-                        ∙ leads_to pid (q.place pid) line false line_is);
+                        ∙ leads_to pid (q.place pid) line ending.Interrupted line_is);
                     phase_is = away.known.now.phase_is;
                   };
                   rests = rests_own program given objects at away.next pid sema
-                      (Some (want.Unit sema)) None Waiting Waiting (q.notes pid) no_notes most
+                      (For (want.Unit sema)) Free Waiting Waiting (q.notes pid) no_notes most
                       (suc most) waits_there (beside away.next _ away.stays changed_away)
                       out_of_line (λ other apart. refl)
                       (record {
@@ -714,17 +718,17 @@ module _ (program : Program) (given : Spot → ℕ) (objects : Objects) where
                           grants = refl;
                         };
                         own = subst (λ (n : ℕ). Stands program given objects away.next pid n
-                            (at_one pid None q.waits pid) (at_one pid no_notes q.notes pid)
+                            (at_one pid Free q.waits pid) (at_one pid no_notes q.notes pid)
                             (suc most)) (sym (at_self pid line.other q.place))
-                            (subst (λ (w : Option Want). Stands program given objects away.next pid
+                            (subst (λ (w : Halt). Stands program given objects away.next pid
                             line.other w (at_one pid no_notes q.notes pid) (suc most))
-                            (sym (at_self pid None q.waits))
+                            (sym (at_self pid Free q.waits))
                             (subst (λ (set : NoteSet). Stands program given objects away.next pid
-                            line.other None set (suc most))
+                            line.other Free set (suc most))
                             (sym (at_self pid no_notes q.notes)) idle_there));
                         others = λ other apart. record {
                           place = at_else pid other line.other q.place apart;
-                          waits = at_else pid other None q.waits apart;
+                          waits = at_else pid other Free q.waits apart;
                           notes = at_else pid other no_notes q.notes apart;
                         };
                         lined = record {

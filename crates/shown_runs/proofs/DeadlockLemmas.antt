@@ -30,41 +30,41 @@ use Rattle.call_machines.specs.Programs.{ProgramState, rests_at}
 use Rattle.call_machines.specs.Programs.ProgramState.{Ended, In}
 use Rattle.call_machines.specs.Runs.{OwnState, event_for, own_in, world_at}
 use Rattle.call_machines.specs.Schedules as runs
-use Rattle.call_machines.specs.Schedules.{state_of}
 use Rattle.call_machines.specs.WaitTables.WaitState.{Waits}
 use Rattle.sema_machines.specs.SemaRuns.CallState.{Takes}
 use Rattle.object_machines.specs.ObjectCalls.{ObjectCall, Objects, object_calls}
 use Rattle.object_machines.specs.ObjectCalls.ObjectCall.{AtSema}
-use Rattle.explored_calls.specs.LibraryCalls.{AreItsObjects, Spot, is_at_head, is_served_in}
+use Rattle.explored_calls.specs.LibraryCalls.{AreItsObjects, Given, Spot, is_at_head, is_served_in}
 use Rattle.explored_calls.specs.LibraryCalls.{library_of, library_program, spot_in}
-use Rattle.explored_calls.proofs.Queued.{Queued, Shows}
+use Rattle.explored_calls.proofs.Queued.{Halt, Queued, Shows}
+use Rattle.explored_calls.proofs.Queued.Halt.{For, Free, Stays}
 use Rattle.shown_runs.specs.ShownRuns.{AreShownCalls, Deadlocks, NoneIsStuck}
 use Rattle.shown_runs.specs.ShownRuns.{arrived, rendez_at, spot_of}
 use Rattle.shown_runs.specs.ShownRuns.{with_choices}
 use Rattle.shown_runs.proofs.CallSteps.{in_library, procs_are}
 use Rattle.shown_runs.proofs.Opening.{followed}
-use Rattle.shown_runs.proofs.Quiet.{such_calls}
+use Rattle.shown_runs.proofs.Quiet.{NoneStays, none_stays, such_calls}
 use Rattle.shown_runs.proofs.Quiet.{IsAsleep, Quiet, StandsBy, sema_at}
 use Rattle.shown_runs.proofs.ShownLemmas.{RunTo, comes, run_to, state_after}
 use Rattle.shown_runs.proofs.StuckLemmas.{HasEndedAt, Starves, WaitsAt, each_stopped}
 use Rattle.shown_runs.proofs.StuckLemmas.{one_starves}
 
-module _ (program : Program) (given : Spot → ℕ) (objects : Objects) (q : Queued) (most : ℕ)
+module _ (program : Program) (given : Spot → Given) (objects : Objects) (q : Queued) (most : ℕ)
     (ways : List Bool) (at : runs.Position (library_of program given objects))
     (quiet : Quiet program given objects q most ways at)
     (to : RunTo (such_calls program given objects) at) where
   -- the call of a process that waits
-  asleep_so : (pid : ℕ) → pid < procs_of program → (what : Want) → q.waits pid ≡ Some what
+  asleep_so : (pid : ℕ) → pid < procs_of program → (what : Want) → q.waits pid ≡ For what
       → (sema : ℕ) × (what ≡ want.Unit sema) × IsAsleep program given objects at pid (q.place pid)
       sema
   asleep_so pid low (want.Unit sema) waits = (
     sema,
     refl,
-    subst (λ (w : Option Want). StandsBy program given objects at pid (q.place pid) w) waits
+    subst (λ (w : Halt). StandsBy program given objects at pid (q.place pid) w) waits
         (quiet.each pid low).stands,
   )
   asleep_so pid low (want.Partner tag) waits =
-      absurd (subst (λ (w : Option Want). StandsBy program given objects at pid (q.place pid) w)
+      absurd (subst (λ (w : Halt). StandsBy program given objects at pid (q.place pid) w)
       waits (quiet.each pid low).stands)
 
   -- where no line is, all calls are over
@@ -79,18 +79,19 @@ module _ (program : Program) (given : Spot → ℕ) (objects : Objects) (q : Que
           ap (λ (found : Option Line). machines.at_place (object_calls objects)
           (library_program program given) (spot_in pid (q.place pid) found)) none
 
-      by : (waits : Option Want) → StandsBy program given objects at pid (q.place pid) waits
+      by : (waits : Halt) → StandsBy program given objects at pid (q.place pid) waits
           → HasEnded ((library_of program given objects).machine.does
           (own_in (library_of program given objects) pid to.run).at)
-      by None idle =
+      by Free idle =
           subst (λ (s : ProgramState Spot ObjectCall). HasEnded
           ((library_of program given objects).machine.does s))
           (sym (state_after program given objects q most ways at quiet to pid Ended
           (idle.state_is ∙ over))) tt
-      by (Some (want.Unit sema)) asleep =
+      by (For (want.Unit sema)) asleep =
           let some = asleep.line_is in
           absurd (let both : None ≡ Some asleep.line = sym none ∙ some in cc)
-      by (Some (want.Partner tag)) nothing = absurd nothing
+      by (For (want.Partner tag)) nothing = absurd nothing
+      by (Stays amid) nothing = absurd nothing
 
   -- whoever waits without notes is parked
   parked_after : (pid : ℕ) → pid < procs_of program → has_notes (q.notes pid) ≡ false
@@ -133,17 +134,21 @@ module _ (program : Program) (given : Spot → ℕ) (objects : Objects) (q : Que
             is_word = ap Flags (quiet.each pid low).rests.flags_is;
           })
 
-module _ (program : Program) (given : Spot → ℕ) (objects : Objects)
+module _ (program : Program) (given : Spot → Given) (objects : Objects)
     (shown : AreShownCalls program) (q : Queued) (most : ℕ) (ways choices : List Bool)
     (at : runs.Position (library_of program given (with_choices objects choices)))
     (quiet : Quiet program given (with_choices objects choices) q most ways at)
     (to : RunTo (such_calls program given (with_choices objects choices)) at) (position : Position)
     (shows : Shows (procs_of program) q position)
     (stuck : is_stuck (system_of program) position ≡ true) where
+  -- nobody is amid a call of a pipe
+  nobody : NoneStays program q
+  nobody = none_stays program given (with_choices objects choices) q most ways at quiet
+
   -- each process has ended or is parked
   stopped : HasStopped (library_of program given (with_choices objects choices)) to.run
   stopped pid below =
-      by (each_stopped program shown q position shows stuck pid low)
+      by (each_stopped program shown q position shows stuck nobody pid low)
     where
       low : pid < procs_of program
       low =
@@ -169,10 +174,10 @@ module _ (program : Program) (given : Spot → ℕ) (objects : Objects)
 
   -- and one waits where it should not
   starves : Starves program shown q position shows stuck
-  starves = one_starves program shown q position shows stuck
+  starves = one_starves program shown q position shows stuck nobody
 
   waits_on : (pid : ℕ) → pid < procs_of program → (line : Line)
-      → slice_get program.lines (q.place pid) ≡ Some line → (what : Want) → q.waits pid ≡ Some what
+      → slice_get program.lines (q.place pid) ≡ Some line → (what : Want) → q.waits pid ≡ For what
       → line.is_served ≡ false
       → rests_at (is_at_head program)
       (own_in (library_of program given (with_choices objects choices)) pid to.run).at
@@ -203,7 +208,7 @@ module _ (program : Program) (given : Spot → ℕ) (objects : Objects)
       }
 
 -- So a schedule that is stuck deadlocks.
-pub stuck_deadlocks : (program : Program) (given : Spot → ℕ) (objects : Objects)
+pub stuck_deadlocks : (program : Program) (given : Spot → Given) (objects : Objects)
     → AreItsObjects program objects → IsProgram program → AreShownCalls program
     → (movers : List ℕ) → length movers ≤ LAST_GRANT
     → (position_of (system_of program) movers).course ≡ course.Open

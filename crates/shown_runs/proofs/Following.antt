@@ -16,7 +16,9 @@ use Rattle.calls.specs.Position.{Position, by_course, moves, status_of}
 use Rattle.calls.specs.Position.{status_of_one, turning_of_one}
 use Rattle.calls.specs.Program.{Program, procs_of}
 use Rattle.explored_calls.proofs.ExplorerSteps.{IsAtCall, IsInLine}
-use Rattle.explored_calls.proofs.Queued.{Queued, Shows, process_of}
+use Rattle.explored_calls.proofs.Queued.{Halt, Queued, Shows, process_of}
+use Rattle.explored_calls.proofs.Queued.Halt.{For, Free, Stays}
+use Rattle.shown_runs.proofs.Quiet.{NoneStays}
 
 -- ---- which step it was
 
@@ -70,9 +72,9 @@ module _ (program : Program) (q : Queued) (at : Position)
   moves_so mover ready =
       ap (λ (c : Course). by_course c (moves program at mover)) (sym shows.is_open) ∙ ready
 
-  goes_by : (pid : ℕ) → pid < procs_of program
+  goes_by : NoneStays program q → (pid : ℕ) → pid < procs_of program
       → status_of_one program at (Some (process_of q pid)) ≡ status.Ready → Begins pid
-  goes_by pid low ready = by_line (slice_get program.lines (q.place pid)) refl
+  goes_by nobody pid low ready = by_line (slice_get program.lines (q.place pid)) refl
     where
       by_line : (found : Option Line) → slice_get program.lines (q.place pid) ≡ found → Begins pid
       by_line None is =
@@ -80,19 +82,21 @@ module _ (program : Program) (q : Queued) (at : Position)
           sym (rw is refl) ∙ ready in cc)
       by_line (Some line) is = by_wait (q.waits pid) refl
         where
-          by_wait : (waits : Option Want) → q.waits pid ≡ waits → Begins pid
-          by_wait None none =
+          by_wait : (waits : Halt) → q.waits pid ≡ waits → Begins pid
+          by_wait Free none =
               record {
                 line = line;
                 is_at = record { low = low; line_is = is; waits = none };
               }
-          by_wait (Some what) some =
+          by_wait (For what) some =
               absurd (resting_so line.is_served (sym (rw (is, some) refl) ∙ ready))
+          by_wait (Stays amid) stays = absurd (nobody pid low amid stays)
 
-  turns_by : (mover pid : ℕ) → mover ≡ procs_of program + pid → pid < procs_of program
+  turns_by : NoneStays program q → (mover pid : ℕ) → mover ≡ procs_of program + pid
+      → pid < procs_of program
       → turning_of_one program (Some (process_of q pid)) ≡ status.Ready
       → Turns mover ⊎ Chooses mover
-  turns_by mover pid other low ready = by_line (slice_get program.lines (q.place pid)) refl
+  turns_by nobody mover pid other low ready = by_line (slice_get program.lines (q.place pid)) refl
     where
       by_line : (found : Option Line) → slice_get program.lines (q.place pid) ≡ found
           → Turns mover ⊎ Chooses mover
@@ -106,8 +110,8 @@ module _ (program : Program) (q : Queued) (at : Position)
           if_ready true so = refl
           if_ready false so = cc
 
-          by_wait : (waits : Option Want) → q.waits pid ≡ waits → Turns mover ⊎ Chooses mover
-          by_wait None none =
+          by_wait : (waits : Halt) → q.waits pid ≡ waits → Turns mover ⊎ Chooses mover
+          by_wait Free none =
               inr (record {
                 pid = pid;
                 is = other;
@@ -115,7 +119,7 @@ module _ (program : Program) (q : Queued) (at : Position)
                 is_at = record { low = low; line_is = is; waits = none };
                 choice = if_ready (is_choice line.call) (sym (rw (is, none) refl) ∙ ready);
               })
-          by_wait (Some what) some =
+          by_wait (For what) some =
               inl (record {
                 pid = pid;
                 is = other;
@@ -124,11 +128,12 @@ module _ (program : Program) (q : Queued) (at : Position)
                 is_in = record { low = low; line_is = is; waits = some };
                 noted = if_ready (has_notes (q.notes pid)) (sym (rw (is, some) refl) ∙ ready);
               })
+          by_wait (Stays amid) stays = absurd (nobody pid low amid stays)
 
   -- one of these it was
-  pub which : (mover : ℕ) → CanMove (system_of program) at mover
+  pub which : NoneStays program q → (mover : ℕ) → CanMove (system_of program) at mover
       → Begins mover ⊎ (Turns mover ⊎ Chooses mover ⊎ Ends mover)
-  which mover can = by_first (nat_lt mover (procs_of program)) refl
+  which nobody mover can = by_first (nat_lt mover (procs_of program)) refl
     where
       ready : moves program at mover ≡ status.Ready
       ready = moves_so mover can.ready
@@ -137,7 +142,7 @@ module _ (program : Program) (q : Queued) (at : Position)
           → Begins mover ⊎ (Turns mover ⊎ Chooses mover ⊎ Ends mover)
       by_first true is =
           let low : mover < procs_of program = grind (arith, nat_tests) in
-          inl (goes_by mover low
+          inl (goes_by nobody mover low
           (ap (status_of_one program at) (sym (shows.processes.each mover low))
           ∙ (sym (rw is refl) ∙ ready)))
       by_first false is =
@@ -159,7 +164,7 @@ module _ (program : Program) (q : Queued) (at : Position)
               let below : nat_lt (mover - procs_of program) (procs_of program) ≡ true =
               grind (arith, nat_tests) in
               let is_other : mover ≡ procs_of program + (mover - procs_of program) = omega arith in
-              pick (turns_by mover (mover - procs_of program) is_other low
+              pick (turns_by nobody mover (mover - procs_of program) is_other low
               (ap (turning_of_one program)
               (sym (shows.processes.each (mover - procs_of program) low))
               ∙ (sym (rw (is, below) refl) ∙ ready)))

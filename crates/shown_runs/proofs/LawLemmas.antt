@@ -1,7 +1,7 @@
 -- What is shown of each schedule: it is made by a run of the library's calls; where it is stuck the
 -- run deadlocks; and where it reaches what must not be reached, so does a run.
 use Rattle.std.proofs.Common.{◌≡◌, ◌≢◌, ◌⊎◌, inl, inr, ℕ, ◌≤◌}
-use Rattle.std.proofs.Common.{Option, List, [], ◌∷◌, length}
+use Rattle.std.proofs.Common.{List, [], ◌∷◌, length}
 use Rattle.std.proofs.Common.{refl, sym, ap, ◌∙◌, subst, arith}
 use Rattle.std.specs.Prelude.{slice_get}
 use Rattle.searches.specs.Schedule.{IsSchedule, position_of}
@@ -11,16 +11,16 @@ use Rattle.calls.specs.declared.course.Course.{Course}
 use Rattle.calls.specs.declared.course.Course.TheVariants as course
 use Rattle.calls.specs.declared.line.Line.{Line}
 use Rattle.calls.specs.declared.process.Process.{Process}
-use Rattle.calls.specs.declared.process.Want.{Want}
 use Rattle.calls.specs.Machine.{system_of}
 use Rattle.calls.specs.Position.{Position, after_of, begun}
 use Rattle.calls.specs.Program.{IsProgram, Program}
 use Rattle.object_machines.specs.ObjectCalls.{Objects}
-use Rattle.explored_calls.specs.LibraryCalls.{AreItsObjects, Spot}
+use Rattle.explored_calls.specs.LibraryCalls.{AreItsObjects, Given, Spot}
 use Rattle.explored_calls.proofs.ExplorerSteps.{IsAtCall, begins_after}
+use Rattle.explored_calls.proofs.Queued.{Halt}
 use Rattle.shown_runs.specs.ShownRuns.{AreShownCalls, ComesToNever, IsPlayed}
 use Rattle.shown_runs.specs.ShownRuns.{with_choices}
-use Rattle.shown_runs.proofs.Opening.{IsFollowed, followed, open_before}
+use Rattle.shown_runs.proofs.Opening.{IsFollowed, followed, nobody_stays, open_before}
 use Rattle.shown_runs.proofs.Played.{PlaysTo, ReachesNever, StepsTo, steps}
 use Rattle.shown_runs.proofs.Quiet.{such_calls}
 use Rattle.shown_runs.proofs.Quiet.{StandsBy}
@@ -28,7 +28,7 @@ use Rattle.shown_runs.proofs.ShownLemmas.{comes, run_to, stage_after, state_afte
 
 -- ---- a schedule that has reached what must not be reached
 
-module _ (program : Program) (given : Spot → ℕ) (objects : Objects)
+module _ (program : Program) (given : Spot → Given) (objects : Objects)
     (are : AreItsObjects program objects) (is_program : IsProgram program)
     (shown : AreShownCalls program) where
   -- it came to a call that is never to be made, and changed nothing else by that
@@ -80,7 +80,8 @@ module _ (program : Program) (given : Spot → ℕ) (objects : Objects)
       by : IsFollowed program given objects are is_program shown past → StopsThere (mover ∷ past)
       by before =
           by_step before (steps program given objects are is_program shown before.q
-          (position_of (system_of program) past) before.shows mover schedule.1)
+          (position_of (system_of program) past) before.shows mover
+          (nobody_stays program given objects are is_program shown past before) schedule.1)
 
   -- ---- each schedule is made by a run
 
@@ -143,7 +144,7 @@ module _ (program : Program) (given : Spot → ℕ) (objects : Objects)
           let plays = there.before.plays [] in
           let to = run_to (such_calls program given (with_choices objects plays.choices)) plays.at
           plays.quiet.reached in
-          let idle = subst (λ (w : Option Want). StandsBy program given
+          let idle = subst (λ (w : Halt). StandsBy program given
           (with_choices objects plays.choices) plays.at there.pid (there.before.q.place there.pid)
           w) there.is_at.waits (plays.quiet.each there.pid there.is_at.low).stands in
           record {

@@ -4,7 +4,7 @@ use Rattle.std.proofs.Common.{◌≡◌, ◌⊎◌, inl, inr, ℕ, zero, suc, �
 use Rattle.std.proofs.Common.{None, List, [], ◌∷◌, length, map, refl, sym, ap}
 use Rattle.std.proofs.Common.{◌∙◌, subst, arith}
 use Rattle.std.specs.Option.{option_map}
-use Rattle.std.specs.Prelude.{slice_index, slice_index_or}
+use Rattle.std.specs.Prelude.{replicate, slice_index, slice_index_or}
 use Rattle.std.proofs.lemmas.List.{get_or-map, length-map, length-replicate}
 use Rattle.std.proofs.lemmas.Option.{slice_get-get_or, slice_get-map}
 use Rattle.sync_base.specs.NoteSet.{no_notes}
@@ -19,6 +19,7 @@ use Rattle.semaphore.specs.Units.{SemaState, grants_of, stage_of}
 use Rattle.calls.specs.declared.course.Course.{Course}
 use Rattle.calls.specs.declared.course.Course.TheVariants as course
 use Rattle.calls.specs.Machine.{system_of}
+use Rattle.calls.specs.Pipes.{empty_direction}
 use Rattle.calls.specs.Position.{Position, after_of, by_course, moves, starting}
 use Rattle.calls.specs.Program.{IsProgram, Program, procs_of}
 use Rattle.call_machines.specs.Programs as machines
@@ -26,12 +27,13 @@ use Rattle.call_machines.specs.Programs.ProgramState.{Ended}
 use Rattle.call_machines.specs.Schedules as runs
 use Rattle.object_machines.specs.ObjectCalls.{Objects, object_calls, opening_sema, sema_of}
 use Rattle.explored_calls.specs.LibraryCalls.{AreItsObjects, Spot, library_of, library_program}
-use Rattle.explored_calls.specs.LibraryCalls.{spot_at, starts_from}
+use Rattle.explored_calls.specs.LibraryCalls.{Given, spot_at, starts_from}
 use Rattle.explored_calls.proofs.Queued.{Queued, Shows}
+use Rattle.explored_calls.proofs.Queued.Halt.{Free}
 use Rattle.shown_runs.specs.ShownRuns.{AreShownCalls, arrived, with_choices}
 use Rattle.shown_runs.proofs.CallSteps.{starts_long}
 use Rattle.shown_runs.proofs.Played.{PlaysTo, ReachesNever, StepsTo, are_with, steps}
-use Rattle.shown_runs.proofs.Quiet.{IsLined, Quiet, Rests, rendez, sema_at}
+use Rattle.shown_runs.proofs.Quiet.{IsLined, NoneStays, Quiet, Rests, none_stays, rendez, sema_at}
 
 starts_at : (program : Program) (first : ℕ) (places : List ℕ) (i : ℕ) → i < length places
     → slice_index_or (starts_from program first places) i None
@@ -50,9 +52,10 @@ abbrev first : Program → Queued
 first program =
     record {
       place = λ pid. slice_index program.starts pid;
-      waits = λ pid. None;
+      waits = λ pid. Free;
       notes = λ pid. no_notes;
       values = program.values;
+      pipes = replicate (length program.pipes) empty_direction;
       line = λ what. [];
     }
 
@@ -67,10 +70,11 @@ first_shows program =
             ∙ ap (option_map starting) (slice_get-get_or program.starts pid 0 low);
       };
       values = refl;
+      pipes = refl;
       lines = record { seats = λ what. tt; stands = λ what pid low. refl };
     }
 
-module _ (program : Program) (given : Spot → ℕ) (objects : Objects)
+module _ (program : Program) (given : Spot → Given) (objects : Objects)
     (are : AreItsObjects program objects) where
   abbrev opening : runs.Position (library_of program given objects)
   opening = runs.position_of (library_of program given objects) []
@@ -103,7 +107,7 @@ module _ (program : Program) (given : Spot → ℕ) (objects : Objects)
 
   first_rests : (pid : ℕ)
       → Rests program given objects (runs.position_of (library_of program given objects) []) pid
-      None Waiting no_notes 0
+      Free Waiting no_notes 0
   first_rests pid =
       record {
         flags_is = get_or-replicate_same _ pid no_flags;
@@ -170,7 +174,7 @@ open_before program at mover can = by at.course refl
         absurd (let ended : status.Ended ≡ status.Ready =
         sym (ap (λ (c : Course). by_course c (moves program at mover)) is) ∙ can.ready in cc)
 
-module _ (program : Program) (given : Spot → ℕ) (objects : Objects)
+module _ (program : Program) (given : Spot → Given) (objects : Objects)
     (are : AreItsObjects program objects) (is_program : IsProgram program)
     (shown : AreShownCalls program) where
   -- the calls come to where a schedule comes to, whatever is to be chosen then
@@ -182,6 +186,13 @@ module _ (program : Program) (given : Spot → ℕ) (objects : Objects)
     -- the calls come there, whatever is to be chosen later
     pub plays : (ways : List Bool)
         → PlaysTo program given objects are is_program shown q (length past) ways
+
+  -- so nobody is amid a call of a pipe there
+  pub nobody_stays : (past : List ℕ) (before : IsFollowed past) → NoneStays program before.q
+  nobody_stays past before =
+      let plays = before.plays [] in
+      none_stays program given (with_choices objects plays.choices) before.q (length past) []
+      plays.at plays.quiet
 
   -- So they do for each schedule that is open.
   pub followed : (past : List ℕ) → IsSchedule (system_of program) past → length past ≤ LAST_GRANT
@@ -202,7 +213,8 @@ module _ (program : Program) (given : Spot → ℕ) (objects : Objects)
       (open_before program (position_of (system_of program) past) mover schedule.1) in
       by before
       (steps program given objects are is_program shown before.q
-      (position_of (system_of program) past) before.shows mover schedule.1)
+      (position_of (system_of program) past) before.shows mover
+      (nobody_stays past before) schedule.1)
     where
       less : length past < LAST_GRANT
       less = omega arith

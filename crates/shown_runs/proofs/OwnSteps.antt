@@ -1,6 +1,6 @@
 -- Calls at no semaphore: a process takes its notes, posts notes, or goes one of two ways.
 use Rattle.std.proofs.Common.{◌≡◌, ℕ, suc, ◌<◌, Bool, if◌then◌else◌}
-use Rattle.std.proofs.Common.{true, false, Some, None, List, ◌∷◌, refl, sym, ap}
+use Rattle.std.proofs.Common.{true, false, Some, List, ◌∷◌, refl, sym, ap}
 use Rattle.std.proofs.Common.{◌∙◌, subst}
 use Rattle.std.specs.Prelude.{slice_get}
 use Rattle.sync_base.specs.declared.ids.RendezId.{RendezId}
@@ -9,8 +9,10 @@ use Rattle.sync_base.specs.NoteSet.{joined, no_notes}
 use Rattle.sleep_core.specs.declared.phase.Phase.TheVariants as phase
 use Rattle.sleep_core.specs.State.{level_of, posted_of}
 use Rattle.calls.specs.declared.call.Call.TheVariants as call
+use Rattle.calls.specs.declared.ending.Ending.TheVariants as ending
 use Rattle.calls.specs.declared.line.Line.{Line}
 use Rattle.calls.specs.Program.{Program, procs_of}
+use Rattle.calls.specs.Lines.{after_ending}
 use Rattle.call_machines.specs.Machine.{Outcome}
 use Rattle.call_machines.specs.Programs.ProgramState.{In}
 use Rattle.call_machines.specs.Schedules.{Position}
@@ -21,10 +23,11 @@ use Rattle.object_machines.specs.ObjectCalls.ObjectRequest.{AtChoices}
 use Rattle.object_machines.specs.OwnCalls.{later_choices, next_choice}
 use Rattle.object_machines.specs.OwnCalls.ChoiceState.{Choosing}
 use Rattle.object_machines.specs.OwnCalls.OwnState.{Draining, Posting}
-use Rattle.explored_calls.specs.LibraryCalls.{AreItsObjects, Spot, library_of}
+use Rattle.explored_calls.specs.LibraryCalls.{AreItsObjects, Given, Spot, chosen_way, library_of}
 use Rattle.explored_calls.proofs.Lists.{at_one}
 use Rattle.explored_calls.proofs.Queued.{Queued, gone, has_notes_now}
-use Rattle.shown_runs.specs.ShownRuns.{spot_of}
+use Rattle.explored_calls.proofs.Queued.Halt.{Free}
+use Rattle.shown_runs.specs.ShownRuns.{arrived, spot_of}
 use Rattle.shown_runs.proofs.Acts.{Known, Leads, asks, drains, posts}
 use Rattle.shown_runs.proofs.CallSteps.{at_call, at_else, at_self, begins, in_library, known_idle}
 use Rattle.shown_runs.proofs.CallSteps.{leads_to}
@@ -36,12 +39,18 @@ use Rattle.shown_runs.proofs.QuietSteps.{ComesQuiet, still_step}
 abbrev any : RendezId
 any = record { 0 = 0 }
 
-module _ (program : Program) (given : Spot → ℕ) (objects : Objects)
+-- the way that was chosen leads there
+chosen_leads : (line : Line) (way : Bool)
+    → after_ending line (chosen_way way) ≡ (if way then line.next else line.other)
+chosen_leads line true = refl
+chosen_leads line false = refl
+
+module _ (program : Program) (given : Spot → Given) (objects : Objects)
     (are : AreItsObjects program objects) (q : Queued) (most : ℕ) (ways : List Bool)
     (at : Position (library_of program given objects))
     (quiet : Quiet program given objects q most ways at) (pid : ℕ) (low : pid < procs_of program)
     (line : Line) (line_is : slice_get program.lines (q.place pid) ≡ Some line)
-    (none : q.waits pid ≡ None) where
+    (none : q.waits pid ≡ Free) where
   -- where the process is then
   idle_at : (next : Position (library_of program given objects)) (to : ℕ)
       → IsIdle program given objects next pid to
@@ -88,16 +97,16 @@ module _ (program : Program) (given : Spot → ℕ) (objects : Objects)
                     ∙ quiet.choices;
                 idle = idle_at drained.next line.next (record {
                   state_is = drained.known.now.state_is
-                      ∙ leads_to program given objects pid (q.place pid) line true line_is;
+                      ∙ leads_to program given objects pid (q.place pid) line ending.Done line_is;
                   phase_is = drained.known.now.phase_is;
                 });
                 waited = none;
-                waits = at_self pid None q.waits;
+                waits = at_self pid Free q.waits;
                 flags = drained.known.now.flags_is
                     ∙ ap (λ (n : NoteSet). record { wake = false; notes = n })
                     (sym (at_self pid no_notes q.notes));
                 places = λ other apart. at_else pid other line.next q.place apart;
-                waiting = λ other apart. at_else pid other None q.waits apart;
+                waiting = λ other apart. at_else pid other Free q.waits apart;
                 notes = λ other apart. at_else pid other no_notes q.notes apart;
                 values = refl;
                 lines = λ sema. refl;
@@ -169,16 +178,16 @@ module _ (program : Program) (given : Spot → ℕ) (objects : Objects)
                     ∙ quiet.choices;
                 idle = idle_at posted.next line.next (record {
                   state_is = posted.known.now.state_is
-                      ∙ leads_to program given objects pid (q.place pid) line true line_is;
+                      ∙ leads_to program given objects pid (q.place pid) line ending.Done line_is;
                   phase_is = posted.known.now.phase_is;
                 });
                 waited = none;
-                waits = at_self pid None q.waits;
+                waits = at_self pid Free q.waits;
                 flags = posted.known.now.flags_is
                     ∙ ap (λ (n : NoteSet). record { wake = false; notes = n })
                     (sym (at_self other (joined (q.notes other) set) q.notes));
                 places = λ third apart. at_else pid third line.next q.place apart;
-                waiting = λ third apart. at_else pid third None q.waits apart;
+                waiting = λ third apart. at_else pid third Free q.waits apart;
                 notes = λ third apart.
                     at_else other third (joined (q.notes other) set) q.notes apart;
                 values = refl;
@@ -237,15 +246,17 @@ module _ (program : Program) (given : Spot → ℕ) (objects : Objects)
                       ∙ (ap (λ (l : List Bool). (library_of program given objects).machine.goes_on
                       (In (spot_of pid (q.place pid)) (Chooses Choosing))
                       (Outcome.Replied (Chosen (next_choice l)))) choices_are
-                      ∙ leads_to program given objects pid (q.place pid) line way line_is);
+                      ∙ (leads_to program given objects pid (q.place pid) line (chosen_way way)
+                      line_is
+                      ∙ ap (arrived program given objects pid) (chosen_leads line way)));
                   phase_is = chosen.known.now.phase_is;
                 });
                 waited = none;
-                waits = at_self pid None q.waits;
+                waits = at_self pid Free q.waits;
                 flags = chosen.known.now.flags_is;
                 places = λ other apart.
                     at_else pid other (if way then line.next else line.other) q.place apart;
-                waiting = λ other apart. at_else pid other None q.waits apart;
+                waiting = λ other apart. at_else pid other Free q.waits apart;
                 notes = λ other apart. refl;
                 values = refl;
                 lines = λ sema. refl;

@@ -1,6 +1,6 @@
 -- Each schedule of the explorer's machine is played by the library's calls, step by step.
 use Rattle.std.proofs.Common.{◌≡◌, ◌⊎◌, inl, inr, ℕ, suc, ◌+◌, ◌<◌}
-use Rattle.std.proofs.Common.{Bool, true, false, Option, Some, None, List}
+use Rattle.std.proofs.Common.{Bool, true, false, Some, None, List}
 use Rattle.std.proofs.Common.{◌∷◌, length, nat_lt, refl, sym, ap, ◌∙◌, subst, arith}
 use Rattle.std.proofs.lemmas.Bool.Decides.{nat_tests}
 use Rattle.sync_base.specs.declared.note.NoteSet.{NoteSet}
@@ -20,18 +20,19 @@ use Rattle.calls.specs.Position.{Position, after_of, begun}
 use Rattle.calls.specs.Program.{IsProgram, Program, procs_of, sizes_of}
 use Rattle.call_machines.specs.Schedules as runs
 use Rattle.object_machines.specs.ObjectCalls.{Objects}
-use Rattle.explored_calls.specs.LibraryCalls.{AreItsObjects, Spot, library_of}
+use Rattle.explored_calls.specs.LibraryCalls.{AreItsObjects, Given, Spot, library_of}
 use Rattle.explored_calls.proofs.ExplorerSteps.{IsAtCall, acquires_to, begins_after}
 use Rattle.explored_calls.proofs.ExplorerSteps.{chooses_after, chooses_to, drains_to, fails_to}
 use Rattle.explored_calls.proofs.ExplorerSteps.{gone_with, posts_to, refuses_to, releases_to}
 use Rattle.explored_calls.proofs.ExplorerSteps.{tries_to, units_of, waits_after, waits_to}
-use Rattle.explored_calls.proofs.Queued.{Queued, Shows, gives_up, gone, has_notes_now, joins}
+use Rattle.explored_calls.proofs.Queued.{Halt, Queued, Shows, gives_up, gone, has_notes_now, joins}
 use Rattle.explored_calls.proofs.QueuedSteps.{shows_gone, shows_left}
+use Rattle.explored_calls.proofs.Queued.Halt.{For}
 use Rattle.shown_runs.specs.ShownRuns.{AreShownCalls, IsShownCall, with_choices}
 use Rattle.shown_runs.proofs.CallSteps.{joins_line, line_can, turns_away}
 use Rattle.shown_runs.proofs.Following.{Begins, Chooses, Ends, Turns, which}
 use Rattle.shown_runs.proofs.OwnSteps.{chooses, posts_notes, takes_notes}
-use Rattle.shown_runs.proofs.Quiet.{Quiet, StandsBy}
+use Rattle.shown_runs.proofs.Quiet.{NoneStays, Quiet, StandsBy}
 use Rattle.shown_runs.proofs.QuietSteps.{ComesQuiet}
 use Rattle.shown_runs.proofs.ReleaseSteps.{releases}
 use Rattle.shown_runs.proofs.UnitSteps.{acquires, fails, is_refused, tries}
@@ -48,13 +49,20 @@ are_with program objects ways are =
         room = are.world.room;
         semas_apart = are.world.semas_apart;
         space_apart = are.world.space_apart;
+        pipes = are.world.pipes;
+        pipes_apart = are.world.pipes_apart;
+        pipe_sema_apart = are.world.pipe_sema_apart;
+        pipe_space_apart = are.world.pipe_space_apart;
       };
       procs_are = are.procs_are;
       semas_are = are.semas_are;
       values_are = are.values_are;
+      pipes_are = are.pipes_are;
+      limits_are = are.limits_are;
+      modes_are = are.modes_are;
     }
 
-module _ (program : Program) (given : Spot → ℕ) (objects : Objects)
+module _ (program : Program) (given : Spot → Given) (objects : Objects)
     (are : AreItsObjects program objects) (is_program : IsProgram program)
     (shown : AreShownCalls program) where
   -- for some list of choices, which these are the last of, the calls come to this position
@@ -286,19 +294,19 @@ module _ (program : Program) (given : Spot → ℕ) (objects : Objects)
         by_want : (choices : List Bool) (most : ℕ) (ways : List Bool)
             (position : runs.Position (library_of program given (with_choices objects choices)))
             → Quiet program given (with_choices objects choices) q most ways position
-            → (what : Want) → q.waits turns.pid ≡ Some what
+            → (what : Want) → q.waits turns.pid ≡ For what
             → ComesQuiet program given (with_choices objects choices)
             (are_with program objects choices are) (gives_up q turns.pid what turns.line.other)
             (suc most) ways
         by_want choices most ways position quiet (want.Unit sema) waits =
-            let asleep = subst (λ (w : Option Want). StandsBy program given
+            let asleep = subst (λ (w : Halt). StandsBy program given
             (with_choices objects choices) position turns.pid (q.place turns.pid) w) waits
             (quiet.each turns.pid turns.is_in.low).stands in
             turns_away program given (with_choices objects choices)
             (are_with program objects choices are) q most ways position quiet turns.pid
             turns.is_in.low sema asleep.low turns.line waits turns.is_in.line_is turns.noted
         by_want choices most ways position quiet (want.Partner tag) waits =
-            absurd (subst (λ (w : Option Want). StandsBy program given
+            absurd (subst (λ (w : Halt). StandsBy program given
             (with_choices objects choices) position turns.pid (q.place turns.pid) w) waits
             (quiet.each turns.pid turns.is_in.low).stands)
 
@@ -332,11 +340,11 @@ module _ (program : Program) (given : Spot → ℕ) (objects : Objects)
       pub never : line.call ≡ call.Never
 
     -- So each step is made, but one that ends the program, or reaches what must not be reached.
-    pub steps : CanMove (system_of program) at mover
+    pub steps : NoneStays program q → CanMove (system_of program) at mover
         → StepsTo q (after_of program at mover)
         ⊎ ((ReachesNever × ((after_of program at mover).course ≡ course.Reached))
         ⊎ ((after_of program at mover).course ≡ course.Ended))
-    steps can = by (which program q at shows mover can)
+    steps nobody can = by (which program q at shows nobody mover can)
       where
         begun_so : (line : Line) (is_at : IsAtCall program q mover line)
             → StepsTo q (after_of program at mover) ⊎ Reaches q at shows mover line is_at

@@ -1,7 +1,7 @@
 -- A position of the library's calls that is quiet: no wakeup is owed, and whoever waits is posted
 -- and asleep. And what stays of it while a process acts.
 use Rattle.std.proofs.Common.{◌≡◌, ◌≢◌, ◌⊎◌, inl, inr, ℕ, ◌<◌, ◌≤◌, Bool}
-use Rattle.std.proofs.Common.{if◌then◌else◌, false, Option, Some, None, List, [], length}
+use Rattle.std.proofs.Common.{if◌then◌else◌, false, Some, None, List, [], length}
 use Rattle.std.proofs.Common.{refl, sym, ap, ◌∙◌, subst, arith}
 use Rattle.std.specs.Prelude.{slice_get, slice_index}
 use Rattle.sync_base.specs.declared.note.NoteSet.{NoteSet}
@@ -13,7 +13,6 @@ use Rattle.semaphore.specs.declared.sema_object.Stage.TheVariants.{Idle, Waiting
 use Rattle.semaphore.specs.Units.{SemaState, grants_of, stage_of}
 use Rattle.calls.specs.declared.call.Call.TheVariants as call
 use Rattle.calls.specs.declared.line.Line.{Line}
-use Rattle.calls.specs.declared.process.Want.{Want}
 use Rattle.calls.specs.declared.process.Want.TheVariants as want
 use Rattle.calls.specs.Program.{Program, procs_of}
 use Rattle.call_machines.specs.Programs.{ProgramState}
@@ -25,18 +24,24 @@ use Rattle.object_machines.specs.ObjectCalls.{ObjectCall, ObjectReply, ObjectReq
 use Rattle.object_machines.specs.ObjectCalls.{Objects, sema_of, sema_state}
 use Rattle.object_machines.specs.ObjectCalls.ObjectCall.{AtSema}
 use Rattle.object_machines.specs.ObjectEnds.{AreApart, LeavesUnworn, sema_row}
-use Rattle.explored_calls.specs.LibraryCalls.{AreItsObjects, Spot, library_of}
-use Rattle.explored_calls.proofs.Queued.{Queued, is_for}
+use Rattle.explored_calls.specs.LibraryCalls.{AreItsObjects, Given, Spot, library_of}
+use Rattle.explored_calls.proofs.Queued.{Amid, Halt, Queued, is_for}
+use Rattle.explored_calls.proofs.Queued.Halt.{For, Free, Stays as IsAmid}
 use Rattle.shown_runs.specs.ShownRuns.{arrived, rendez_at, spot_of}
 use Rattle.shown_runs.proofs.Acts.{IsSized, Reached, Stays, SuchSystem}
 
 -- the system of the library's calls, and the replies by which nothing is worn out
-abbrev pub such_calls : Program → (Spot → ℕ) → Objects
+abbrev pub such_calls : Program → (Spot → Given) → Objects
     → SuchSystem (ProgramState Spot ObjectCall) ObjectRequest ObjectReply Unit ObjectStates
 such_calls program given objects =
     record { system = library_of program given objects; comes = LeavesUnworn }
 
-module _ (program : Program) (given : Spot → ℕ) (objects : Objects) where
+-- no process is amid a call of a pipe
+abbrev pub NoneStays : Program → Queued → Type 0
+NoneStays program q =
+    (pid : ℕ) → pid < procs_of program → (amid : Amid) → q.waits pid ≢ IsAmid amid
+
+module _ (program : Program) (given : Spot → Given) (objects : Objects) where
   -- the semaphore with this number, as the position has it
   abbrev pub sema_at : Position (library_of program given objects) → ℕ → SemaState
   sema_at at sema = sema_state objects at.object sema
@@ -50,7 +55,7 @@ module _ (program : Program) (given : Spot → ℕ) (objects : Objects) where
   -- what the world and the semaphores have of a process that waits for this, and stands so at its
   -- semaphore
   pub record Rests (at : Position (library_of program given objects)) (pid : ℕ)
-      (waits : Option Want) (how : Stage) (set : NoteSet) (most : ℕ) : Type 0 where
+      (waits : Halt) (how : Stage) (set : NoteSet) (most : ℕ) : Type 0 where
     -- it has no mark, and these notes
     pub flags_is : flags_of at.world pid ≡ record { wake = false; notes = set }
     -- it is posted where it waits, and nowhere else
@@ -94,15 +99,16 @@ module _ (program : Program) (given : Spot → ℕ) (objects : Objects) where
     pub phase_is : phase_of at.world pid
         ≡ phase.Asleep (rendez_at objects sema pid) (grants_of (sema_at at sema) pid)
 
-  -- by what it waits for: nothing, or a unit
-  abbrev pub StandsBy : Position (library_of program given objects) → ℕ → ℕ → Option Want → Type 0
-  StandsBy at pid place None = IsIdle at pid place
-  StandsBy at pid place (Some (want.Unit sema)) = IsAsleep at pid place sema
-  StandsBy at pid place (Some (want.Partner tag)) = ⊥
+  -- By what it waits for: nothing, or a unit. Nobody is amid a call of a pipe.
+  abbrev pub StandsBy : Position (library_of program given objects) → ℕ → ℕ → Halt → Type 0
+  StandsBy at pid place Free = IsIdle at pid place
+  StandsBy at pid place (For (want.Unit sema)) = IsAsleep at pid place sema
+  StandsBy at pid place (For (want.Partner tag)) = ⊥
+  StandsBy at pid place (IsAmid amid) = ⊥
 
   -- how a process stands, by its place, its wait and its notes
   pub record Stands (at : Position (library_of program given objects)) (pid place : ℕ)
-      (waits : Option Want) (set : NoteSet) (most : ℕ) : Type 0 where
+      (waits : Halt) (set : NoteSet) (most : ℕ) : Type 0 where
     -- it stands by what it waits for
     pub stands : StandsBy at pid place waits
     -- the world and its seats have it so
@@ -145,6 +151,13 @@ module _ (program : Program) (given : Spot → ℕ) (objects : Objects) where
     -- each semaphore is as the lines say, and names nobody
     pub lined : (sema : ℕ) → sema < length program.values
         → IsLined (sema_at at sema) (slice_index q.values sema) (q.line (want.Unit sema)) []
+
+  -- so nobody is amid a call of a pipe
+  pub none_stays : (q : Queued) (most : ℕ) (ways : List Bool)
+      (at : Position (library_of program given objects))
+      → Quiet q most ways at → NoneStays program q
+  none_stays q most ways at quiet pid low amid stays =
+      subst (λ (w : Halt). StandsBy at pid (q.place pid) w) stays (quiet.each pid low).stands
 
   -- ---- what stays
 
@@ -205,7 +218,7 @@ module _ (program : Program) (given : Spot → ℕ) (objects : Objects) where
 
   -- a process of which only notes change rests as it did
   pub rests_still : (at next : Position (library_of program given objects)) (pid : ℕ)
-      (waits : Option Want) (how : Stage) (set held : NoteSet) (most more : ℕ)
+      (waits : Halt) (how : Stage) (set held : NoteSet) (most more : ℕ)
       → Rests at pid waits how set most
       → ((sema : ℕ) → sema < length program.values → Frame at next pid sema)
       → flags_of next.world pid ≡ record { wake = false; notes = held } → most ≤ more
@@ -229,7 +242,7 @@ module _ (program : Program) (given : Spot → ℕ) (objects : Objects) where
 
   -- at one semaphore it is this now
   pub record Own (next : Position (library_of program given objects)) (pid sema : ℕ)
-      (waits : Option Want) (how : Stage) (most : ℕ) : Type 0 where
+      (waits : Halt) (how : Stage) (most : ℕ) : Type 0 where
     -- it is posted there if it waits there
     pub posted : posted_of next.world (rendez sema pid)
         ≡ (if is_for (want.Unit sema) waits then posted_as pid else nobody)
@@ -243,7 +256,7 @@ module _ (program : Program) (given : Spot → ℕ) (objects : Objects) where
 
   -- a process that changes at one semaphore alone rests as it should
   pub rests_own : (at next : Position (library_of program given objects)) (pid sema : ℕ)
-      (waits now : Option Want) (before how : Stage) (set held : NoteSet) (most more : ℕ)
+      (waits now : Halt) (before how : Stage) (set held : NoteSet) (most more : ℕ)
       → Rests at pid waits before set most
       → ((other : ℕ) → other < length program.values → other ≢ sema → Frame at next pid other)
       → ((other : ℕ) → other ≢ sema → is_for (want.Unit other) waits ≡ false)
@@ -304,7 +317,7 @@ module _ (program : Program) (given : Spot → ℕ) (objects : Objects) where
 
   -- a process that does not act stands as before
   pub stands_still : (at next : Position (library_of program given objects)) (pid place : ℕ)
-      (waits : Option Want) (set held : NoteSet) (most more : ℕ)
+      (waits : Halt) (set held : NoteSet) (most more : ℕ)
       → Stands at pid place waits set most
       → state_of (library_of program given objects) next pid
       ≡ state_of (library_of program given objects) at pid
@@ -320,10 +333,10 @@ module _ (program : Program) (given : Spot → ℕ) (objects : Objects) where
             grows;
       }
     where
-      by : (has : Option Want) → StandsBy at pid place has → StandsBy next pid place has
-      by None idle =
+      by : (has : Halt) → StandsBy at pid place has → StandsBy next pid place has
+      by Free idle =
           record { state_is = state ∙ idle.state_is; phase_is = stage ∙ idle.phase_is }
-      by (Some (want.Unit sema)) asleep =
+      by (For (want.Unit sema)) asleep =
           record {
             line = asleep.line;
             line_is = asleep.line_is;
@@ -336,7 +349,8 @@ module _ (program : Program) (given : Spot → ℕ) (objects : Objects) where
                 ∙ ap (phase.Asleep (rendez_at objects sema pid))
                 (sym (frame sema asleep.low).grants));
           }
-      by (Some (want.Partner tag)) none = absurd none
+      by (For (want.Partner tag)) none = absurd none
+      by (IsAmid amid) none = absurd none
 
   -- ---- no two seats have a Rendez in common
 

@@ -1,7 +1,7 @@
 -- A step that leads from a quiet position to a quiet one: a process acts at one semaphore, or at
 -- none.
 use Rattle.std.proofs.Common.{◌≡◌, ◌≢◌, ◌⊎◌, inl, inr, ℕ, suc, ◌<◌, Bool}
-use Rattle.std.proofs.Common.{false, Option, None, List, [], length}
+use Rattle.std.proofs.Common.{false, List, [], length}
 use Rattle.std.proofs.Common.{sym, ap, ◌∙◌, subst, arith}
 use Rattle.std.specs.Prelude.{slice_index}
 use Rattle.sync_base.specs.declared.note.NoteSet.{NoteSet}
@@ -9,13 +9,13 @@ use Rattle.sleep_core.specs.State.{flags_of, level_of, posted_of}
 use Rattle.sleep_core.proofs.Frames.{same_or_not}
 use Rattle.semaphore.specs.declared.sema_object.Stage.TheVariants.{Waiting}
 use Rattle.semaphore.specs.Units.{SemaState, grants_of, stage_of}
-use Rattle.calls.specs.declared.process.Want.{Want}
 use Rattle.calls.specs.declared.process.Want.TheVariants as want
 use Rattle.calls.specs.Program.{Program, procs_of}
 use Rattle.call_machines.specs.Schedules.{Position}
 use Rattle.object_machines.specs.ObjectCalls.{Objects, sema_state}
-use Rattle.explored_calls.specs.LibraryCalls.{AreItsObjects, Spot, library_of}
-use Rattle.explored_calls.proofs.Queued.{Queued}
+use Rattle.explored_calls.specs.LibraryCalls.{AreItsObjects, Given, Spot, library_of}
+use Rattle.explored_calls.proofs.Queued.{Halt, Queued}
+use Rattle.explored_calls.proofs.Queued.Halt.{Free}
 use Rattle.shown_runs.proofs.Acts.{IsSized, Reached, Stays}
 use Rattle.shown_runs.proofs.Quiet.{such_calls}
 use Rattle.shown_runs.proofs.Quiet.{Changed, Frame, IsIdle, IsLined, Quiet, SameSeat, Stands}
@@ -30,7 +30,7 @@ pub record SameFor (q now : Queued) (pid : ℕ) : Type 0 where
   -- it has the same notes pending
   pub notes : now.notes pid ≡ q.notes pid
 
-module _ (program : Program) (given : Spot → ℕ) (objects : Objects)
+module _ (program : Program) (given : Spot → Given) (objects : Objects)
     (are : AreItsObjects program objects) where
   -- a quiet position is come to
   pub record ComesQuiet (now : Queued) (most : ℕ) (ways : List Bool) : Type 0 where
@@ -47,7 +47,7 @@ module _ (program : Program) (given : Spot → ℕ) (objects : Objects)
   same_stands at q now pid most same stands =
       subst (λ (n : ℕ). Stands program given objects at pid n (now.waits pid) (now.notes pid) most)
       (sym same.place)
-      (subst (λ (w : Option Want).
+      (subst (λ (w : Halt).
       Stands program given objects at pid (q.place pid) w (now.notes pid) most) (sym same.waits)
       (subst (λ (s : NoteSet).
       Stands program given objects at pid (q.place pid) (q.waits pid) s most) (sym same.notes)
@@ -162,9 +162,9 @@ module _ (program : Program) (given : Spot → ℕ) (objects : Objects)
     -- the process has gone on to its next place
     pub idle : IsIdle program given objects next pid (now.place pid)
     -- it waited for nothing before
-    pub waited : q.waits pid ≡ None
+    pub waited : q.waits pid ≡ Free
     -- and it waits for nothing then
-    pub waits : now.waits pid ≡ None
+    pub waits : now.waits pid ≡ Free
     -- the one whose flags change has these notes
     pub flags : flags_of next.world noted ≡ record { wake = false; notes = now.notes noted }
     -- the places of all others stay
@@ -242,16 +242,16 @@ module _ (program : Program) (given : Spot → ℕ) (objects : Objects)
           → Stands program given objects next other (now.place other) (now.waits other)
           (now.notes other) (suc most)
       each_by other below (inl same) =
-          let waits_now : now.waits other ≡ None = ap now.waits same ∙ step.waits in
-          let waits_old : q.waits other ≡ None = ap q.waits same ∙ step.waited in
-          subst (λ (w : Option Want). Stands program given objects next other (now.place other) w
+          let waits_now : now.waits other ≡ Free = ap now.waits same ∙ step.waits in
+          let waits_old : q.waits other ≡ Free = ap q.waits same ∙ step.waited in
+          subst (λ (w : Halt). Stands program given objects next other (now.place other) w
           (now.notes other) (suc most)) (sym waits_now)
           (record {
             stands = subst (λ (n : ℕ). IsIdle program given objects next n (now.place n))
                 (sym same) step.idle;
-            rests = rests_still program given objects at next other None Waiting (q.notes other)
+            rests = rests_still program given objects at next other Free Waiting (q.notes other)
                 (now.notes other) most (suc most)
-                (subst (λ (w : Option Want). Rests program given objects at other w Waiting
+                (subst (λ (w : Halt). Rests program given objects at other w Waiting
                 (q.notes other) most) waits_old
                 (quiet.each other below).rests)
                 (λ sema less. frame other sema)
@@ -260,7 +260,7 @@ module _ (program : Program) (given : Spot → ℕ) (objects : Objects)
       each_by other below (inr apart) =
           subst (λ (n : ℕ). Stands program given objects next other n (now.waits other)
           (now.notes other) (suc most)) (sym (step.places other apart))
-          (subst (λ (w : Option Want). Stands program given objects next other (q.place other) w
+          (subst (λ (w : Halt). Stands program given objects next other (q.place other) w
           (now.notes other) (suc most)) (sym (step.waiting other apart))
           (stands_still program given objects at next other (q.place other) (q.waits other)
           (q.notes other) (now.notes other) most (suc most) (quiet.each other below)

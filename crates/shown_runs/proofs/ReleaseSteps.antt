@@ -1,7 +1,7 @@
 -- A release that is taken leads from a quiet position to the one in which those who wait were
 -- served.
 use Rattle.std.proofs.Common.{◌≡◌, ◌≢◌, ℕ, suc, ◌+◌, ◌-◌, ◌<◌, ◌≤◌, Bool}
-use Rattle.std.proofs.Common.{if◌then◌else◌, true, false, Option, Some, None, List, [], ◌∷◌, length}
+use Rattle.std.proofs.Common.{if◌then◌else◌, true, false, Option, Some, List, [], ◌∷◌, length}
 use Rattle.std.proofs.Common.{nat_lt, take, drop, refl, sym, ap, ◌∙◌, subst, arith}
 use Rattle.std.specs.Prelude.{slice_get, slice_index}
 use Rattle.std.proofs.lemmas.List.{get_or-set_other, get_or-set_same, length-set}
@@ -12,6 +12,7 @@ use Rattle.semaphore.specs.declared.sema_object.Stage.TheVariants.{Granted, Wait
 use Rattle.semaphore.specs.Units.{SemaState, grants_of, stage_of}
 use Rattle.semaphore.specs.WaitQueue.{AreSeats, stands_in}
 use Rattle.calls.specs.declared.call.Call.TheVariants as call
+use Rattle.calls.specs.declared.ending.Ending.TheVariants as ending
 use Rattle.calls.specs.declared.line.Line.{Line}
 use Rattle.calls.specs.declared.process.Want.{Want}
 use Rattle.calls.specs.declared.process.Want.TheVariants as want
@@ -30,12 +31,13 @@ use Rattle.object_machines.specs.ObjectCalls.ObjectCall.{AtSema}
 use Rattle.object_machines.specs.ObjectCalls.ObjectReply.{BySema}
 use Rattle.object_machines.specs.ObjectCalls.ObjectRequest.{OfSema}
 use Rattle.object_machines.specs.ObjectEnds.{is_sema_unworn}
-use Rattle.explored_calls.specs.LibraryCalls.{AreItsObjects, Spot, library_of}
+use Rattle.explored_calls.specs.LibraryCalls.{AreItsObjects, Given, Spot, library_of}
 use Rattle.explored_calls.proofs.ExplorerSteps.{units_of, with_units}
 use Rattle.explored_calls.proofs.LineLemmas.{stands_taken}
-use Rattle.explored_calls.proofs.Queued.{AreLines, Queued, gone, is_for, itself, same_want}
+use Rattle.explored_calls.proofs.Queued.{AreLines, Halt, Queued, gone, is_for, itself, same_want}
 use Rattle.explored_calls.proofs.Queued.{served_at}
 use Rattle.explored_calls.proofs.Queued.{serves, stands_nowhere}
+use Rattle.explored_calls.proofs.Queued.Halt.{For, Free, Stays}
 use Rattle.shown_runs.specs.ShownRuns.{spot_of}
 use Rattle.shown_runs.proofs.Acts.{Leads, asks}
 use Rattle.shown_runs.proofs.CallSteps.{apart_numbers, at_call, at_else, at_self, begins}
@@ -52,17 +54,18 @@ use Rattle.shown_runs.proofs.Serving.{IsServed, Serving}
 use Rattle.shown_runs.proofs.ServingSteps.{wakes_all, wakes_one}
 
 -- who is in a line waits for it
-waits_for_it : (what : Want) (has : Option Want) → is_for what has ≡ true → has ≡ Some what
-waits_for_it what None is = cc
-waits_for_it what (Some other) is = ap Some (sym (same_want what other is))
+waits_for_it : (what : Want) (has : Halt) → is_for what has ≡ true → has ≡ For what
+waits_for_it what Free is = cc
+waits_for_it what (For other) is = ap For (sym (same_want what other is))
+waits_for_it what (Stays amid) is = cc
 
-module _ (program : Program) (given : Spot → ℕ) (objects : Objects)
+module _ (program : Program) (given : Spot → Given) (objects : Objects)
     (are : AreItsObjects program objects) (q : Queued) (most : ℕ) (ways : List Bool)
     (at : Position (library_of program given objects))
     (quiet : Quiet program given objects q most ways at) (lines : AreLines (procs_of program) q)
     (by : ℕ) (low : by < procs_of program) (sema : ℕ) (there : sema < length program.values)
     (line : Line) (line_is : slice_get program.lines (q.place by) ≡ Some line)
-    (none : q.waits by ≡ None) (count : ℕ) (made : line.call ≡ call.Release sema count)
+    (none : q.waits by ≡ Free) (count : ℕ) (made : line.call ≡ call.Release sema count)
     (few : nat_lt MAX_VALUE ((sema_at program given objects at sema).value + count) ≡ false) where
   abbrev s : SemaState
   s = sema_at program given objects at sema
@@ -159,7 +162,7 @@ module _ (program : Program) (given : Spot → ℕ) (objects : Objects)
   waits_same : (pid : ℕ)
       → stands_in (take (units_of q sema + count) (q.line (want.Unit sema))) pid ≡ false
       → all_served.waits pid ≡ q.waits pid
-  waits_same pid out = ap (λ (b : Bool). if b then None else q.waits pid) out
+  waits_same pid out = ap (λ (b : Bool). if b then Free else q.waits pid) out
 
   -- ---- nobody is served
 
@@ -171,16 +174,16 @@ module _ (program : Program) (given : Spot → ℕ) (objects : Objects)
       (served_all (sema_at program given objects at sema) count) (ReleaseAndNext count) _
       (In (spot_of by (q.place by)) (AtSema sema (Gives count Releasing))) there none
       (at_call program given objects by (q.place by) line _ line_is made) so.answered refl refl
-      (leads_to program given objects by (q.place by) line true line_is)
+      (leads_to program given objects by (q.place by) line ending.Done line_is)
       (λ other below. not_served [] _ so.served other below (out other))
       (record {
         others = λ other apart. record {
           place = at_else by other line.next all_served.place apart ∙ place_same other (out other);
-          waits = at_else by other None all_served.waits apart ∙ waits_same other (out other);
+          waits = at_else by other Free all_served.waits apart ∙ waits_same other (out other);
           notes = refl;
         };
         place = at_self by line.next all_served.place;
-        waits = at_self by None all_served.waits;
+        waits = at_self by Free all_served.waits;
         notes = refl;
         lined = lined_so [] _ so.served;
         counted = length-set q.values sema _;
@@ -292,7 +295,7 @@ module _ (program : Program) (given : Spot → ℕ) (objects : Objects)
         let old = quiet.each pid less in
         subst (λ (n : ℕ). Stands program given objects led.next pid n (all_served.waits pid)
         (q.notes pid) (suc most)) (sym (place_same pid out))
-        (subst (λ (w : Option Want). Stands program given objects led.next pid (q.place pid) w
+        (subst (λ (w : Halt). Stands program given objects led.next pid (q.place pid) w
         (q.notes pid) (suc most)) (sym (waits_same pid out))
         (stands_still program given objects at led.next pid (q.place pid) (q.waits pid)
         (q.notes pid) (q.notes pid) most (suc most) old (led.stays.states pid apart)
@@ -309,7 +312,7 @@ module _ (program : Program) (given : Spot → ℕ) (objects : Objects)
           (sema_at program given objects at sema).waiters) pid ≡ true
       gets_too = ap (λ (l : List ℕ). stands_in l pid) taken_is ∙ gets
 
-      waits : q.waits pid ≡ Some (want.Unit sema)
+      waits : q.waits pid ≡ For (want.Unit sema)
       waits =
           waits_for_it (want.Unit sema) (q.waits pid)
           (sym (lines.stands (want.Unit sema) pid less)
@@ -325,10 +328,10 @@ module _ (program : Program) (given : Spot → ℕ) (objects : Objects)
 
       asleep : IsAsleep program given objects at pid (q.place pid) sema
       asleep =
-          subst (λ (w : Option Want). StandsBy program given objects at pid (q.place pid) w) waits
+          subst (λ (w : Halt). StandsBy program given objects at pid (q.place pid) w) waits
           (quiet.each pid less).stands
 
-      rests : Rests program given objects at pid (Some (want.Unit sema)) Waiting (q.notes pid) most
+      rests : Rests program given objects at pid (For (want.Unit sema)) Waiting (q.notes pid) most
       rests = rests_of program given objects are q most ways at quiet pid less _ waits
 
       more : grants_of (sema_at program given objects led.next sema) pid
@@ -347,7 +350,7 @@ module _ (program : Program) (given : Spot → ℕ) (objects : Objects)
           ∙ rw gets_too refl)
 
       out_of_line : (other : ℕ) → other ≢ sema
-          → is_for (want.Unit other) (Some (want.Unit sema)) ≡ false
+          → is_for (want.Unit other) (For (want.Unit sema)) ≡ false
       out_of_line other apart = apart_numbers other sema (λ same. apart (sym same))
 
       is_served : IsServed program given objects led.next pid sema (all_served.place pid)
@@ -363,8 +366,8 @@ module _ (program : Program) (given : Spot → ℕ) (objects : Objects)
                 ∙ ap (λ (found : Option Line). next_of found (q.place pid)) asleep.line_is);
             state_is = led.stays.states pid apart_from ∙ asleep.state_is;
             phase_is = led.stays.phases pid apart_from ∙ asleep.phase_is;
-            rests = rests_own program given objects at led.next pid sema (Some (want.Unit sema))
-                (Some (want.Unit sema)) Waiting Granted (q.notes pid) (q.notes pid) most (suc most)
+            rests = rests_own program given objects at led.next pid sema (For (want.Unit sema))
+                (For (want.Unit sema)) Waiting Granted (q.notes pid) (q.notes pid) most (suc most)
                 rests (λ other below apart. beside pid other apart) out_of_line out_of_line
                 (record {
                   posted = words (rendez program given objects sema pid) ∙ rests.posted sema there;
@@ -391,12 +394,12 @@ module _ (program : Program) (given : Spot → ℕ) (objects : Objects)
           choices = changed.choices ∙ quiet.choices;
           others = stands_as;
           granted = is_served;
-          gone = λ pid is. ap (λ (b : Bool). if b then None else q.waits pid)
+          gone = λ pid is. ap (λ (b : Bool). if b then Free else q.waits pid)
               (gets_by pid true is);
           idle = led.known.now.phase_is;
-          rests = rests_still program given objects at led.next by None Waiting (q.notes by)
+          rests = rests_still program given objects at led.next by Free Waiting (q.notes by)
               (q.notes by) most (suc most)
-              (rests_of program given objects are q most ways at quiet by low None none)
+              (rests_of program given objects are q most ways at quiet by low Free none)
               (λ other below. frame by low by_out other) led.known.now.flags_is (omega arith);
           out = sym (ap (λ (l : List ℕ). stands_in l by) some) ∙ by_out;
           seats = subst (AreSeats (procs_of program)) some
@@ -432,7 +435,7 @@ module _ (program : Program) (given : Spot → ℕ) (objects : Objects)
         let here = ap (λ (s : SemaState). grants_of s x) changed.here in
         omega (arith, here)
 
-    by_still : all_served.waits by ≡ None
+    by_still : all_served.waits by ≡ Free
     by_still = waits_same by by_out ∙ none
 
     place_still : all_served.place by ≡ q.place by

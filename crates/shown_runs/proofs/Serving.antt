@@ -1,7 +1,7 @@
 -- A release on its way: it has granted units to some, who are still asleep, and wakes one after the
 -- other. Whoever is woken goes on with its unit before the next one is named.
 use Rattle.std.proofs.Common.{◌≡◌, ◌≢◌, ◌⊎◌, inl, inr, ℕ, ◌<◌, Bool}
-use Rattle.std.proofs.Common.{true, false, Some, None, List, []}
+use Rattle.std.proofs.Common.{true, false, Some, List, []}
 use Rattle.std.proofs.Common.{length, refl, sym, ap, ◌∙◌}
 use Rattle.std.specs.Prelude.{slice_get, slice_index, slice_set}
 use Rattle.sync_base.specs.declared.fault.Fault.TheVariants as fault
@@ -15,6 +15,7 @@ use Rattle.semaphore.specs.declared.sema_object.SemaReply.TheVariants as reply
 use Rattle.semaphore.specs.declared.sema_object.Stage.TheVariants.{Granted, Idle, Waiting}
 use Rattle.semaphore.specs.Units.{SemaState, stage_of}
 use Rattle.semaphore.specs.WaitQueue.{AreSeats, stands_in, without}
+use Rattle.calls.specs.declared.ending.Ending.TheVariants as ending
 use Rattle.calls.specs.declared.line.Line.{Line}
 use Rattle.calls.specs.declared.process.Want.TheVariants as want
 use Rattle.calls.specs.Program.{Program, procs_of}
@@ -32,10 +33,11 @@ use Rattle.object_machines.specs.ObjectCalls.ObjectCall.{AtSema}
 use Rattle.object_machines.specs.ObjectCalls.ObjectReply.{BySema}
 use Rattle.object_machines.specs.ObjectCalls.ObjectRequest.{OfSema}
 use Rattle.object_machines.specs.ObjectEnds.{is_sema_unworn}
-use Rattle.explored_calls.specs.LibraryCalls.{AreItsObjects, Spot, library_of}
+use Rattle.explored_calls.specs.LibraryCalls.{AreItsObjects, Given, Spot, library_of}
 use Rattle.explored_calls.proofs.Queued.{Queued}
 use Rattle.explored_calls.proofs.UnitFacts
 use Rattle.explored_calls.proofs.UnitFacts.{Answered}
+use Rattle.explored_calls.proofs.Queued.Halt.{For, Free}
 use Rattle.shown_runs.specs.ShownRuns.{arrived, rendez_at, spot_of}
 use Rattle.shown_runs.proofs.Acts.{Here, IsSized, Known, Leads, Reached, asks, goes_on_noted}
 use Rattle.shown_runs.proofs.Acts.{goes_on_well, led_so, on, returns}
@@ -44,7 +46,7 @@ use Rattle.shown_runs.proofs.Quiet.{such_calls}
 use Rattle.shown_runs.proofs.Quiet.{IsLined, Rests, Stands}
 use Rattle.shown_runs.proofs.Quiet.{rendez, sema_at}
 
-module _ (program : Program) (given : Spot → ℕ) (objects : Objects) where
+module _ (program : Program) (given : Spot → Given) (objects : Objects) where
   -- ---- one that was granted its unit, and is still asleep
 
   -- it sleeps in a semacquire, has its unit, and is to go on there
@@ -66,7 +68,7 @@ module _ (program : Program) (given : Spot → ℕ) (objects : Objects) where
     -- it is asleep in the Rendez of its seat
     pub phase_is : phase_of at.world pid ≡ phase.Asleep (rendez_at objects sema pid) number
     -- it is posted there, and its seat has a unit
-    pub rests : Rests program given objects at pid (Some (want.Unit sema)) Granted set most
+    pub rests : Rests program given objects at pid (For (want.Unit sema)) Granted set most
 
   -- ---- the position
 
@@ -92,11 +94,11 @@ module _ (program : Program) (given : Spot → ℕ) (objects : Objects) where
     pub granted : (pid : ℕ) → pid < procs_of program → stands_in served pid ≡ true
         → IsServed at pid sema (q.place pid) (q.notes pid) most
     -- of the served the lines say that they wait no more
-    pub gone : (pid : ℕ) → stands_in served pid ≡ true → q.waits pid ≡ None
+    pub gone : (pid : ℕ) → stands_in served pid ≡ true → q.waits pid ≡ Free
     -- the process that releases is in no sleep and no wakeup
     pub idle : phase_of at.world by ≡ phase.Idle
     -- it has no mark, and waits nowhere
-    pub rests : Rests program given objects at by None Waiting (q.notes by) most
+    pub rests : Rests program given objects at by Free Waiting (q.notes by) most
     -- it was not served by itself
     pub out : stands_in served by ≡ false
     -- each of the served is listed once
@@ -203,7 +205,7 @@ module _ (program : Program) (given : Spot → ℕ) (objects : Objects) where
         (ap (λ (told : HoldReply). (library_of program given objects).machine.goes_on
         (In (spot_of pid place) (AtSema sema (Takes pid Asking)))
         (Outcome.Replied (BySema told))) collects.told_is
-        ∙ leads_to program given objects pid place line true line_is)
+        ∙ leads_to program given objects pid place line ending.Done line_is)
         (ap (λ (n : NoteSet). record { wake = false; notes = n })
         (sym (no_notes_at_all set none)))
         (ap (with_sema object sema) collects.after_is)
@@ -236,7 +238,7 @@ module _ (program : Program) (given : Spot → ℕ) (objects : Objects) where
         (Outcome.Replied (BySema told))) leaves.told_is) refl refl)
         (λ left. returns (such_calls program given objects) pid (rendez_at objects sema pid)
         (in_library program given objects pid low) _ _ set left refl refl)))
-        (leads_to program given objects pid place line true line_is)
+        (leads_to program given objects pid place line ending.Done line_is)
         refl
         (ap (with_sema object sema) leaves.after_is)
 

@@ -1,6 +1,6 @@
 -- A release wakes one seat after the other, and comes to a quiet position.
 use Rattle.std.proofs.Common.{◌≡◌, ◌≢◌, ◌⊎◌, inl, inr, ℕ, ◌<◌, ◌≤◌, max, Bool}
-use Rattle.std.proofs.Common.{true, false, Option, Some, None, List, [], ◌∷◌}
+use Rattle.std.proofs.Common.{true, false, Some, None, List, [], ◌∷◌}
 use Rattle.std.proofs.Common.{length, drop, refl, sym, ap, ◌∙◌, subst, arith}
 use Rattle.std.specs.Prelude.{slice_get, slice_index}
 use Rattle.std.proofs.lemmas.Bool.Decides.{nat_tests}
@@ -15,8 +15,8 @@ use Rattle.semaphore.specs.declared.sema_object.SemaReply.TheVariants as reply
 use Rattle.semaphore.specs.declared.sema_object.Stage.TheVariants.{Granted, Idle, Waiting}
 use Rattle.semaphore.specs.Units.{SemaState, after, answer_to, grants_of, stage_of}
 use Rattle.semaphore.specs.WaitQueue.{stands_in}
+use Rattle.calls.specs.declared.ending.Ending.TheVariants as ending
 use Rattle.calls.specs.declared.line.Line.{Line}
-use Rattle.calls.specs.declared.process.Want.{Want}
 use Rattle.calls.specs.declared.process.Want.TheVariants as want
 use Rattle.calls.specs.Program.{Program, procs_of}
 use Rattle.call_machines.specs.Machine.{Outcome}
@@ -31,9 +31,10 @@ use Rattle.object_machines.specs.ObjectCalls.ObjectCall.{AtSema}
 use Rattle.object_machines.specs.ObjectCalls.ObjectReply.{BySema}
 use Rattle.object_machines.specs.ObjectCalls.ObjectRequest.{OfSema}
 use Rattle.object_machines.specs.ObjectEnds.{is_sema_unworn}
-use Rattle.explored_calls.specs.LibraryCalls.{AreItsObjects, Spot, library_of}
+use Rattle.explored_calls.specs.LibraryCalls.{AreItsObjects, Given, Spot, library_of}
 use Rattle.explored_calls.proofs.Lists.{at_one}
-use Rattle.explored_calls.proofs.Queued.{Queued, gone, itself}
+use Rattle.explored_calls.proofs.Queued.{Halt, Queued, gone, itself}
+use Rattle.explored_calls.proofs.Queued.Halt.{For, Free}
 use Rattle.shown_runs.specs.ShownRuns.{arrived, rendez_at, spot_of}
 use Rattle.shown_runs.proofs.Acts.{Leads, asks, wakes}
 use Rattle.shown_runs.proofs.CallSteps.{apart_numbers, at_else, at_self, changed_after, every}
@@ -46,7 +47,7 @@ use Rattle.shown_runs.proofs.QuietSteps.{ComesQuiet}
 use Rattle.shown_runs.proofs.ReleaseFacts.{named_one, names_first, names_none}
 use Rattle.shown_runs.proofs.Serving.{IsServed, Serving, collected, goes_with_unit, has_unit}
 
-module _ (program : Program) (given : Spot → ℕ) (objects : Objects)
+module _ (program : Program) (given : Spot → Given) (objects : Objects)
     (are : AreItsObjects program objects) where
   -- a release that is to ask who is next
   pub record IsNaming (q : Queued) (sema by : ℕ) (served names : List ℕ) (most : ℕ)
@@ -199,9 +200,9 @@ module _ (program : Program) (given : Spot → ℕ) (objects : Objects)
     phase_stays pid not_by not_x =
         goes.stays.phases pid not_x ∙ woken.stays.phases pid not_by
 
-    x_rests : Rests program given objects goes.next x None Waiting (q.notes x) most
+    x_rests : Rests program given objects goes.next x Free Waiting (q.notes x) most
     x_rests =
-        rests_own program given objects at goes.next x sema (Some (want.Unit sema)) None Granted
+        rests_own program given objects at goes.next x sema (For (want.Unit sema)) Free Granted
         Waiting (q.notes x) (q.notes x) most most one.rests beside
         (λ other apart. apart_numbers other sema (λ same. apart (sym same)))
         (λ other apart. refl)
@@ -222,7 +223,7 @@ module _ (program : Program) (given : Spot → ℕ) (objects : Objects)
 
     x_stands : Stands program given objects goes.next x (q.place x) (q.waits x) (q.notes x) most
     x_stands =
-        subst (λ (w : Option Want). Stands program given objects goes.next x (q.place x) w
+        subst (λ (w : Halt). Stands program given objects goes.next x (q.place x) w
         (q.notes x) most) (sym (serving.gone x x_in))
         (record {
           stands = record {
@@ -264,7 +265,7 @@ module _ (program : Program) (given : Spot → ℕ) (objects : Objects)
           next_is = old.next_is;
           state_is = state_stays pid (not_by pid is) (not_x pid is) ∙ old.state_is;
           phase_is = phase_stays pid (not_by pid is) (not_x pid is) ∙ old.phase_is;
-          rests = rests_still program given objects at goes.next pid (Some (want.Unit sema)) Granted
+          rests = rests_still program given objects at goes.next pid (For (want.Unit sema)) Granted
               (q.notes pid) (q.notes pid) most most old.rests
               (frame pid less (not_x pid is))
               (goes.stays.flags pid (not_x pid is)
@@ -298,7 +299,7 @@ module _ (program : Program) (given : Spot → ℕ) (objects : Objects)
           granted = sleeps_on;
           gone = λ pid is. serving.gone pid (still_in pid is);
           idle = goes.stays.phases by by_apart ∙ woken.known.now.phase_is;
-          rests = rests_still program given objects at goes.next by None Waiting (q.notes by)
+          rests = rests_still program given objects at goes.next by Free Waiting (q.notes by)
               (q.notes by) most most serving.rests (frame by low by_apart)
               (goes.stays.flags by by_apart
               ∙ (woken.stays.flags by by_apart ∙ serving.rests.flags_is)) (omega arith);
@@ -332,7 +333,7 @@ module _ (program : Program) (given : Spot → ℕ) (objects : Objects)
 
   module _ (q : Queued) (sema by place : ℕ) (most : ℕ) (ways : List Bool) (line : Line)
       (there : sema < length program.values) (low : by < procs_of program)
-      (line_is : slice_get program.lines place ≡ Some line) (waits : q.waits by ≡ None)
+      (line_is : slice_get program.lines place ≡ Some line) (waits : q.waits by ≡ Free)
       (count sum : ℕ) where
     -- a release that has just asked who is next
     module _ (served : List ℕ) (names now : List ℕ)
@@ -427,9 +428,9 @@ module _ (program : Program) (given : Spot → ℕ) (objects : Objects)
           (asked.stays.phases pid apart) (asked.stays.flags pid apart ∙ old.rests.flags_is)
           (λ other below. asked_frame pid other) (omega arith)
 
-      by_rests : Rests program given objects asked.next by None Waiting (q.notes by) most
+      by_rests : Rests program given objects asked.next by Free Waiting (q.notes by) most
       by_rests =
-          rests_still program given objects at asked.next by None Waiting (q.notes by) (q.notes by)
+          rests_still program given objects at asked.next by Free Waiting (q.notes by) (q.notes by)
           most most serving.rests (λ other below. asked_frame by other) asked.known.now.flags_is
           (omega arith)
 
@@ -482,7 +483,7 @@ module _ (program : Program) (given : Spot → ℕ) (objects : Objects)
                 state_is = asked.stays.states pid (apart_from pid is) ∙ old.state_is;
                 phase_is = asked.stays.phases pid (apart_from pid is) ∙ old.phase_is;
                 rests = rests_still program given objects at asked.next pid
-                    (Some (want.Unit sema)) Granted (q.notes pid) (q.notes pid) most most old.rests
+                    (For (want.Unit sema)) Granted (q.notes pid) (q.notes pid) most most old.rests
                     (λ other below. asked_frame pid other)
                     (asked.stays.flags pid (apart_from pid is) ∙ old.rests.flags_is) (omega arith);
               }
@@ -505,7 +506,7 @@ module _ (program : Program) (given : Spot → ℕ) (objects : Objects)
             lined = λ other below. lined_by other below (same_or_not other sema);
           }
         where
-          own : Stands program given objects asked.next by line.next None (q.notes by) most
+          own : Stands program given objects asked.next by line.next Free (q.notes by) most
           own =
               record {
                 stands = record {
@@ -517,22 +518,22 @@ module _ (program : Program) (given : Spot → ℕ) (objects : Objects)
 
           each_by : (pid : ℕ) → pid < procs_of program → (pid ≡ by) ⊎ (pid ≢ by)
               → Stands program given objects asked.next pid (at_one by line.next q.place pid)
-              (at_one by None q.waits pid) (q.notes pid) most
+              (at_one by Free q.waits pid) (q.notes pid) most
           each_by pid less (inl same) =
               subst (λ (n : ℕ). Stands program given objects asked.next n
-              (at_one by line.next q.place n) (at_one by None q.waits n) (q.notes n) most)
+              (at_one by line.next q.place n) (at_one by Free q.waits n) (q.notes n) most)
               (sym same)
               (subst (λ (n : ℕ). Stands program given objects asked.next by n
-              (at_one by None q.waits by) (q.notes by) most)
+              (at_one by Free q.waits by) (q.notes by) most)
               (sym (at_self by line.next q.place))
-              (subst (λ (w : Option Want). Stands program given objects asked.next by line.next w
-              (q.notes by) most) (sym (at_self by None q.waits)) own))
+              (subst (λ (w : Halt). Stands program given objects asked.next by line.next w
+              (q.notes by) most) (sym (at_self by Free q.waits)) own))
           each_by pid less (inr apart) =
               subst (λ (n : ℕ). Stands program given objects asked.next pid n
-              (at_one by None q.waits pid) (q.notes pid) most)
+              (at_one by Free q.waits pid) (q.notes pid) most)
               (sym (at_else by pid line.next q.place apart))
-              (subst (λ (w : Option Want). Stands program given objects asked.next pid
-              (q.place pid) w (q.notes pid) most) (sym (at_else by pid None q.waits apart))
+              (subst (λ (w : Halt). Stands program given objects asked.next pid
+              (q.place pid) w (q.notes pid) most) (sym (at_else by pid Free q.waits apart))
               (stands_asked pid less apart (ap (λ (l : List ℕ). stands_in l pid) nobody)))
 
           lined_by : (other : ℕ) → other < length program.values → (other ≡ sema) ⊎ (other ≢ sema)
@@ -562,7 +563,7 @@ module _ (program : Program) (given : Spot → ℕ) (objects : Objects)
           quiet = quiet_now [] [] [] at serving naming reply.NoWake
               (sema_at program given objects at sema) none refl
               (λ pid. record { stage = refl; grants = refl }) serving.lined_here refl refl
-              (leads_to program given objects by place line true line_is);
+              (leads_to program given objects by place line ending.Done line_is);
         }
     wakes_all (y ∷ names) at serving naming =
         let first = names_first (sema_at program given objects at sema) y names

@@ -9,7 +9,6 @@ use Rattle.sleep_core.specs.State.{State, flags_of, level_of, phase_of, posted_o
 use Rattle.semaphore.specs.declared.sema_object.Stage.TheVariants.{Waiting}
 use Rattle.semaphore.specs.Units.{grants_of}
 use Rattle.calls.specs.declared.process.Process.{Process}
-use Rattle.calls.specs.declared.process.Want.{Want}
 use Rattle.calls.specs.declared.process.Want.TheVariants as want
 use Rattle.calls.specs.Position.{Position}
 use Rattle.calls.specs.Program.{Program, procs_of}
@@ -22,9 +21,10 @@ use Rattle.call_machines.specs.Schedules as runs
 use Rattle.call_machines.specs.Schedules.{act_of, acted, makers_of, run_of, state_of, with_step}
 use Rattle.call_machines.proofs.ScheduleLemmas.{played_so, schedules_are_runs}
 use Rattle.object_machines.specs.ObjectCalls.{ObjectCall, Objects}
-use Rattle.explored_calls.specs.LibraryCalls.{Spot}
+use Rattle.explored_calls.specs.LibraryCalls.{Given, Spot}
 use Rattle.explored_calls.specs.LibraryCalls.{library_of}
-use Rattle.explored_calls.proofs.Queued.{Queued, Shows, itself, process_of, stands_by}
+use Rattle.explored_calls.proofs.Queued.{Halt, Queued, Shows, itself, process_of, stands_by}
+use Rattle.explored_calls.proofs.Queued.Halt.{For, Free, Stays}
 use Rattle.shown_runs.specs.ShownRuns.{ComesTo, IsAsShown}
 use Rattle.shown_runs.specs.ShownRuns.{StandsSo}
 use Rattle.shown_runs.proofs.Acts.{Reached, SuchSystem}
@@ -96,7 +96,7 @@ get_low [] i x there = absurd cc
 get_low (y ∷ xs) zero x there = omega arith
 get_low (y ∷ xs) (suc i) x there = let low = get_low xs i x there in omega arith
 
-module _ (program : Program) (given : Spot → ℕ) (objects : Objects) (q : Queued) (most : ℕ)
+module _ (program : Program) (given : Spot → Given) (objects : Objects) (q : Queued) (most : ℕ)
     (ways : List Bool) (at : runs.Position (library_of program given objects))
     (quiet : Quiet program given objects q most ways at)
     (to : RunTo (such_calls program given objects) at) where
@@ -125,17 +125,17 @@ module _ (program : Program) (given : Spot → ℕ) (objects : Objects) (q : Que
   stands_after pid low = by (q.waits pid) (quiet.each pid low).stands (quiet.each pid low).rests
       refl
     where
-      by : (waits : Option Want) → StandsBy program given objects at pid (q.place pid) waits
+      by : (waits : Halt) → StandsBy program given objects at pid (q.place pid) waits
           → Rests program given objects at pid waits Waiting (q.notes pid) most
           → q.waits pid ≡ waits
           → StandsSo program given objects to.run pid (q.place pid)
           (record (process_of q pid) { standing = stands_by q.line pid waits }).standing
-      by None idle rests is =
+      by Free idle rests is =
           record {
             at = state_after pid _ idle.state_is;
             idle = stage_after pid _ idle.phase_is;
           }
-      by (Some (want.Unit sema)) asleep rests is =
+      by (For (want.Unit sema)) asleep rests is =
           record {
             number = grants_of (sema_at program given objects at sema) pid;
             at = state_after pid _ asleep.state_is;
@@ -150,7 +150,8 @@ module _ (program : Program) (given : Spot → ℕ) (objects : Objects) (q : Que
                 rw level under;
             unmarked = ap (λ (f : ProcFlags). f.wake) (flags_after pid low);
           }
-      by (Some (want.Partner tag)) none rests is = none
+      by (For (want.Partner tag)) none rests is = none
+      by (Stays amid) none rests is = absurd none
 
   -- So the run comes to the position.
   pub comes : (shown : Position) → Shows (procs_of program) q shown

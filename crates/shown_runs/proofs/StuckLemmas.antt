@@ -21,8 +21,10 @@ use Rattle.calls.specs.Position.{status_of_one, turning_at, turning_of_one}
 use Rattle.calls.specs.Program.{Program, procs_of}
 use Rattle.calls.specs.Timers.{is_early}
 use Rattle.explored_calls.proofs.ExplorerSteps.{begins_ready, waits_ready}
-use Rattle.explored_calls.proofs.Queued.{Queued, Shows, process_of}
+use Rattle.explored_calls.proofs.Queued.{Halt, Queued, Shows, process_of}
+use Rattle.explored_calls.proofs.Queued.Halt.{For, Free, Stays}
 use Rattle.shown_runs.specs.ShownRuns.{AreShownCalls, IsShownCall}
+use Rattle.shown_runs.proofs.Quiet.{NoneStays}
 
 -- a number below the bound that passes the test
 pub record IsFound (test : ℕ → Bool) (bound : ℕ) : Type 0 where
@@ -112,26 +114,28 @@ module _ (program : Program) (shown : AreShownCalls program) (q : Queued) (at : 
     -- its place has that line in the program
     pub line_is : slice_get program.lines (q.place pid) ≡ Some line
     -- it waits for that, and has not been served
-    pub waits : q.waits pid ≡ Some what
+    pub waits : q.waits pid ≡ For what
     -- it has no notes that would end its wait
     pub none : has_notes (q.notes pid) ≡ false
 
   -- Each process is one or the other.
-  pub each_stopped : (pid : ℕ) → pid < procs_of program → HasEndedAt pid ⊎ WaitsAt pid
-  each_stopped pid low = by_line (slice_get program.lines (q.place pid)) refl
+  pub each_stopped : NoneStays program q → (pid : ℕ) → pid < procs_of program
+      → HasEndedAt pid ⊎ WaitsAt pid
+  each_stopped none_amid pid low = by_line (slice_get program.lines (q.place pid)) refl
     where
       by_line : (found : Option Line) → slice_get program.lines (q.place pid) ≡ found
           → HasEndedAt pid ⊎ WaitsAt pid
       by_line None is = inl (record { none = is })
       by_line (Some line) is = by_wait (q.waits pid) refl
         where
-          by_wait : (waits : Option Want) → q.waits pid ≡ waits → HasEndedAt pid ⊎ WaitsAt pid
-          by_wait None none =
+          by_wait : (waits : Halt) → q.waits pid ≡ waits → HasEndedAt pid ⊎ WaitsAt pid
+          by_wait Free none =
               absurd (not_ready pid (omega arith)
               (begins_ready program q at shows pid line
               (record { low = low; line_is = is; waits = none })
               (never_early at.processes line.call (shown (q.place pid) line is))))
-          by_wait (Some what) some = by_notes (has_notes (q.notes pid)) refl
+          by_wait (Stays amid) stays = absurd (none_amid pid low amid stays)
+          by_wait (For what) some = by_notes (has_notes (q.notes pid)) refl
             where
               by_notes : (noted : Bool) → has_notes (q.notes pid) ≡ noted
                   → HasEndedAt pid ⊎ WaitsAt pid
@@ -196,7 +200,7 @@ module _ (program : Program) (shown : AreShownCalls program) (q : Queued) (at : 
     -- its place has that line in the program
     pub line_is : slice_get program.lines (q.place pid) ≡ Some line
     -- it waits for that, and has not been served
-    pub waits : q.waits pid ≡ Some what
+    pub waits : q.waits pid ≡ For what
     -- that line is not the head of a loop
     pub not_served : line.is_served ≡ false
 
@@ -204,8 +208,8 @@ module _ (program : Program) (shown : AreShownCalls program) (q : Queued) (at : 
   moves_are mover = ap (λ (c : Course). by_course c (moves program at mover)) (sym shows.is_open)
 
   -- One of them starves, since the machine is stuck.
-  pub one_starves : Starves
-  one_starves =
+  pub one_starves : NoneStays program q → Starves
+  one_starves none_amid =
       by_found (some_found (λ mover. not (has_ended (status_of program at mover)))
       (procs_of program + procs_of program + 1) parts.0)
     where
@@ -232,7 +236,7 @@ module _ (program : Program) (shown : AreShownCalls program) (q : Queued) (at : 
               let unended : has_ended (moves program at found.n) ≡ false =
               ap has_ended (moves_are found.n) ∙ not_ended in
               cc)
-          by_first true is = by_kind (each_stopped found.n low)
+          by_first true is = by_kind (each_stopped none_amid found.n low)
             where
               low : found.n < procs_of program
               low = grind (arith, nat_tests)

@@ -11,6 +11,7 @@ use Rattle.semaphore.specs.declared.sema_object.SemaReply.TheVariants as reply
 use Rattle.semaphore.specs.declared.sema_object.Stage.TheVariants.{Idle}
 use Rattle.semaphore.specs.Units.{SemaState, stage_of}
 use Rattle.calls.specs.declared.call.Call.TheVariants as call
+use Rattle.calls.specs.declared.ending.Ending.TheVariants as ending
 use Rattle.calls.specs.declared.line.Line.{Line}
 use Rattle.calls.specs.Program.{Program, procs_of}
 use Rattle.call_machines.specs.Machine.{Next, Outcome}
@@ -28,23 +29,24 @@ use Rattle.object_machines.specs.ObjectCalls.ObjectCall.{AtSema}
 use Rattle.object_machines.specs.ObjectCalls.ObjectReply.{BySema}
 use Rattle.object_machines.specs.ObjectCalls.ObjectRequest.{OfSema}
 use Rattle.object_machines.specs.ObjectEnds.{is_sema_unworn}
-use Rattle.explored_calls.specs.LibraryCalls.{AreItsObjects, Spot, library_of}
+use Rattle.explored_calls.specs.LibraryCalls.{AreItsObjects, Given, Spot, library_of}
 use Rattle.explored_calls.proofs.ExplorerSteps.{gone_with, units_of}
 use Rattle.explored_calls.proofs.Queued.{Queued, gone}
 use Rattle.explored_calls.proofs.UnitFacts
 use Rattle.explored_calls.proofs.UnitFacts.{Answered}
+use Rattle.explored_calls.proofs.Queued.Halt.{Free}
 use Rattle.shown_runs.specs.ShownRuns.{arrived, spot_of}
 use Rattle.shown_runs.proofs.CallSteps.{at_call, at_else, at_self, goes_by_request, leads_to}
 use Rattle.shown_runs.proofs.CallSteps.{rests_of}
 use Rattle.shown_runs.proofs.Quiet.{Quiet, sema_at}
 use Rattle.shown_runs.proofs.QuietSteps.{ComesQuiet}
 
-module _ (program : Program) (given : Spot → ℕ) (objects : Objects)
+module _ (program : Program) (given : Spot → Given) (objects : Objects)
     (are : AreItsObjects program objects) (q : Queued) (most : ℕ) (ways : List Bool)
     (at : Position (library_of program given objects))
     (quiet : Quiet program given objects q most ways at) (pid : ℕ) (low : pid < procs_of program)
     (line : Line) (line_is : slice_get program.lines (q.place pid) ≡ Some line)
-    (none : q.waits pid ≡ None) (sema : ℕ) (there : sema < length program.values) where
+    (none : q.waits pid ≡ Free) (sema : ℕ) (there : sema < length program.values) where
   abbrev s : SemaState
   s = sema_at program given objects at sema
 
@@ -52,7 +54,7 @@ module _ (program : Program) (given : Spot → ℕ) (objects : Objects)
   seat_there = subst (λ (n : ℕ). pid < n) (sym (quiet.lined sema there).stages) low
 
   idle : stage_of (sema_at program given objects at sema) pid ≡ Idle
-  idle = (rests_of program given objects are q most ways at quiet pid low None none).stage sema
+  idle = (rests_of program given objects are q most ways at quiet pid low Free none).stage sema
       there
 
   -- it has units, or none, as the explorer has it
@@ -79,11 +81,11 @@ module _ (program : Program) (given : Spot → ℕ) (objects : Objects)
       (record {
         others = λ other apart. record {
           place = at_else pid other to q.place apart;
-          waits = at_else pid other None q.waits apart;
+          waits = at_else pid other Free q.waits apart;
           notes = refl;
         };
         place = at_self pid to q.place;
-        waits = at_self pid None q.waits;
+        waits = at_self pid Free q.waits;
         notes = refl;
         lined = record {
           value = ap (λ (n : ℕ). n - 1) (quiet.lined sema there).value
@@ -116,11 +118,11 @@ module _ (program : Program) (given : Spot → ℕ) (objects : Objects)
       (record {
         others = λ other apart. record {
           place = at_else pid other to q.place apart;
-          waits = at_else pid other None q.waits apart;
+          waits = at_else pid other Free q.waits apart;
           notes = refl;
         };
         place = at_self pid to q.place;
-        waits = at_self pid None q.waits;
+        waits = at_self pid Free q.waits;
         notes = refl;
         lined = quiet.lined sema there;
         counted = refl;
@@ -136,7 +138,7 @@ module _ (program : Program) (given : Spot → ℕ) (objects : Objects)
       (In (spot_of pid (q.place pid)) (AtSema sema (Takes pid Begun)))
       (at_call program given objects pid (q.place pid) line _ line_is made)
       (by (UnitFacts.acquires (sema_at program given objects at sema) pid seat_there idle)) refl
-      (leads_to program given objects pid (q.place pid) line true line_is)
+      (leads_to program given objects pid (q.place pid) line ending.Done line_is)
     where
       by : (nat_lt 0 (sema_at program given objects at sema).value ≡ true)
           × Answered (sema_at program given objects at sema) (Alone (Acquire pid))
@@ -177,7 +179,7 @@ module _ (program : Program) (given : Spot → ℕ) (objects : Objects)
       (In (spot_of pid (q.place pid)) (AtSema sema (Tries pid Trying)))
       (at_call program given objects pid (q.place pid) line _ line_is made)
       (by (UnitFacts.tries (sema_at program given objects at sema) pid seat_there idle)) refl
-      (leads_to program given objects pid (q.place pid) line true line_is)
+      (leads_to program given objects pid (q.place pid) line ending.Done line_is)
     where
       by : Tried → Answered (sema_at program given objects at sema) (Alone (AcquireNow pid))
           (UnitFacts.alone reply.Acquired)
@@ -196,7 +198,7 @@ module _ (program : Program) (given : Spot → ℕ) (objects : Objects)
       (In (spot_of pid (q.place pid)) (AtSema sema (Tries pid Trying)))
       (at_call program given objects pid (q.place pid) line _ line_is made)
       (by (UnitFacts.tries (sema_at program given objects at sema) pid seat_there idle)) refl refl
-      (leads_to program given objects pid (q.place pid) line false line_is)
+      (leads_to program given objects pid (q.place pid) line ending.Interrupted line_is)
     where
       by : Tried → Answered (sema_at program given objects at sema) (Alone (AcquireNow pid))
           (UnitFacts.alone reply.NotNow) (sema_at program given objects at sema)
@@ -216,7 +218,7 @@ module _ (program : Program) (given : Spot → ℕ) (objects : Objects)
       (at_call program given objects pid (q.place pid) line _ line_is made)
       (by_more (ap (λ (n : ℕ). nat_lt MAX_VALUE (n + count)) (quiet.lined sema there).value ∙ more))
       refl refl
-      (leads_to program given objects pid (q.place pid) line true line_is)
+      (leads_to program given objects pid (q.place pid) line ending.Done line_is)
     where
       by_more : nat_lt MAX_VALUE ((sema_at program given objects at sema).value + count) ≡ true
           → Answered (sema_at program given objects at sema) (ReleaseAndNext count)

@@ -5,6 +5,7 @@ use Rattle.std.proofs.Common.{None, List, [], ◌∷◌, ap, refl, arith}
 use Rattle.std.specs.List.{AllByRecursion}
 use Rattle.kernel_lock.specs.declared.locked.Locked.{Locked}
 use Rattle.kernel_lock.specs.Seats.{limit_of, opening_of}
+use Rattle.sync_base.specs.declared.mode.Mode.TheVariants.{Message}
 use Rattle.sync_base.specs.declared.note.Note.TheVariants.{Interrupt}
 use Rattle.sync_base.specs.declared.note.NoteSet.{NoteSet}
 use Rattle.sync_base.specs.NoteSet.{no_notes, only}
@@ -34,7 +35,7 @@ use Rattle.call_machines.specs.Runs.{IsOfCalls, procs}
 use Rattle.call_machines.specs.Schedules.{run_of}
 use Rattle.call_machines.proofs.ScheduleLemmas.{schedules_are_runs}
 use Rattle.object_machines.specs.ObjectCalls.{Objects}
-use Rattle.explored_calls.specs.LibraryCalls.{Spot, library_of}
+use Rattle.explored_calls.specs.LibraryCalls.{Given, Spot, library_of}
 use Rattle.shown_runs.specs.ShownRuns.{AreFewSteps, ComesToNever, IsAsShown}
 use Rattle.shown_runs.specs.ShownRuns.{IsAtPlace, IsShownCall, LibraryStep, SleepsFor}
 use Rattle.shown_runs.specs.ShownRuns.{shown_at, with_choices}
@@ -81,8 +82,8 @@ abbrev forked : Program
 forked =
     program_of (line_to call.Choose 9 1 ∷ line_to call.Never 9 9 ∷ []) (0 ∷ 9 ∷ [])
 
-abbrev given : Spot → ℕ
-given spot = 0
+abbrev given : Spot → Given
+given spot = record { value = 0; writer = 0; seat = 0 }
 
 -- a process that has not made its call
 abbrev stands_at : ℕ → Process
@@ -162,6 +163,12 @@ module _ (lock : Locked SemaState SemaCall SemaReply)
       record {
         semas = record { sema = sema; value = 0 } ∷ [];
         none = record { sema = sema; value = 0 };
+        pipes = [];
+        no_pipe = record {
+          limit = 1;
+          row = record { first = 4; writers = 1; mode = Message; small = omega arith };
+          holders = record { reader = 0; writers = [] };
+        };
         space = space;
         choices = [];
         procs = 2;

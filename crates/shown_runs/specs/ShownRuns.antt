@@ -33,7 +33,7 @@ use Rattle.object_machines.specs.ObjectCalls.{ObjectCall, ObjectReply, ObjectReq
 use Rattle.object_machines.specs.ObjectCalls.{Objects, object_calls, sema_of}
 use Rattle.object_machines.specs.ObjectCalls.ObjectCall.{AtSema}
 use Rattle.object_machines.specs.ObjectEnds.{LeavesUnworn}
-use Rattle.explored_calls.specs.LibraryCalls.{AreItsObjects, Spot, is_at_head, library_of}
+use Rattle.explored_calls.specs.LibraryCalls.{AreItsObjects, Given, Spot, is_at_head, library_of}
 use Rattle.explored_calls.specs.LibraryCalls.{library_program, spot_at}
 
 -- ---- which programs
@@ -74,7 +74,7 @@ spot_of pid place = record { by = pid; place = place }
 abbrev pub rendez_at : Objects → ℕ → ℕ → RendezId
 rendez_at objects sema pid = rendez_of_seat (sema_of objects sema).sema pid
 
-module _ (program : Program) (given : Spot → ℕ) (objects : Objects) where
+module _ (program : Program) (given : Spot → Given) (objects : Objects) where
   -- where a process is that goes on at a place: about to make the call there, or at its end
   abbrev pub arrived : ℕ → ℕ → ProgramState Spot ObjectCall
   arrived pid place =
@@ -123,7 +123,7 @@ module _ (program : Program) (given : Spot → ℕ) (objects : Objects) where
 
 -- ---- the laws
 
-module _ (program : Program) (given : Spot → ℕ) (objects : Objects) where
+module _ (program : Program) (given : Spot → Given) (objects : Objects) where
   -- for some list of choices a run of the library's calls comes to the position
   pub record IsPlayed (at : Position) : Type 0 where
     pub choices : List Bool
@@ -157,9 +157,9 @@ module _ (program : Program) (given : Spot → ℕ) (objects : Objects) where
     pub there : IsAtPlace program given (with_choices objects choices) run pid place
 
 -- what is shown of each schedule of the explorer's machine, whatever values are given in rendezvous
-abbrev pub OfEachSchedule : (Program → (Spot → ℕ) → Objects → List ℕ → Type 0) → Type 0
+abbrev pub OfEachSchedule : (Program → (Spot → Given) → Objects → List ℕ → Type 0) → Type 0
 OfEachSchedule Shown =
-    (program : Program) (given : Spot → ℕ) (objects : Objects) (movers : List ℕ)
+    (program : Program) (given : Spot → Given) (objects : Objects) (movers : List ℕ)
     → IsProgram program → AreShownCalls program → AreItsObjects program objects
     → IsSchedule (system_of program) movers → AreFewSteps movers
     → Shown program given objects movers

@@ -1,0 +1,375 @@
+-- The moves of a call at a direction of a pipe are steps of the explorer.
+use Rattle.std.proofs.Common.{◌≡◌, inl, inr, ℕ, ◌<◌, Bool, if◌then◌else◌, true}
+use Rattle.std.proofs.Common.{false, Some, None, List, length, nat_lt, refl, sym, ap, ◌∙◌, subst}
+use Rattle.std.specs.Prelude.{slice_get, slice_set}
+use Rattle.sync_base.specs.declared.note.Note.TheVariants.{ClosedPipe}
+use Rattle.sync_base.specs.declared.note.NoteSet.{NoteSet}
+use Rattle.sync_base.specs.NoteSet.{joined, no_notes, only}
+use Rattle.calls.specs.declared.call.Call.TheVariants as call
+use Rattle.calls.specs.declared.direction.Found.TheVariants as found
+use Rattle.calls.specs.declared.line.Line.{Line}
+use Rattle.calls.specs.Calls.{pipe_of}
+use Rattle.calls.specs.Lines.{has_notes}
+use Rattle.calls.specs.Pipes.{Direction, accepted, finds, hung, stood}
+use Rattle.calls.specs.Pipes.{taken as read_from}
+use Rattle.calls.specs.Program.{Program, is_stream_at, limit_at, procs_of}
+use Rattle.explored_calls.proofs.ExplorerPipes as steps
+use Rattle.explored_calls.proofs.ExplorerPipes.{IsMaking, halted}
+use Rattle.explored_calls.proofs.ExplorerSteps.{Reaches}
+use Rattle.explored_calls.proofs.Lists.{at_one}
+use Rattle.explored_calls.proofs.PipePhases.{MayBegin}
+use Rattle.explored_calls.proofs.Queued.{Halt, Queued}
+use Rattle.explored_calls.proofs.Queued.Amid.{Blocks, Wrote}
+use Rattle.explored_calls.proofs.Queued.Halt.{Free, Stays}
+use Rattle.explored_calls.proofs.Running.{AreSame, Follows, IsNoted, MayTurn, Phase, Running}
+use Rattle.explored_calls.proofs.Running.{notes_by, place_by, reaches_same, seen}
+use Rattle.explored_calls.proofs.Running.{waits_by}
+use Rattle.explored_calls.proofs.Running.Phase.{Has, Is, Served}
+use Rattle.explored_calls.proofs.RunningSteps.{GoesTo, by_one}
+
+-- the process goes so now, and these notes of it are pending
+abbrev pub turned_to : Running → ℕ → Phase → NoteSet → Running
+turned_to m pid phase set =
+    record m { phase = at_one pid phase m.phase; notes = at_one pid set m.notes }
+
+module _ (program : Program) (pipes : List Direction) (m : Running)
+    (follows : Follows program pipes m) (pid : ℕ) (low : pid < procs_of program) where
+  -- the position before it, where some have turned away
+  abbrev now_seen : (ℕ → Bool) → Queued
+  now_seen turned = seen program pipes m turned
+
+  -- a step of the explorer to where the process goes so
+  follows_so : (phase : Phase) (set : NoteSet) (next : List Direction) → (IsNoted phase → ⊥)
+      → ((turned : ℕ → Bool) → Reaches program (seen program pipes m turned)
+      → Reaches program (halted (seen program pipes m turned) pid
+      (place_by program phase (turned pid)) (waits_by phase (turned pid))
+      (notes_by phase (turned pid) set) next))
+      → Follows program next (turned_to m pid phase set)
+  follows_so phase set next stays step turned may =
+      reaches_same program _ _ same (step turned (follows turned may_now))
+    where
+      may_now : MayTurn m turned
+      may_now other is =
+          by_one pid other
+          (λ test. IsNoted (if test then phase else m.phase other) → IsNoted (m.phase other))
+          (λ same noted. absurd (stays noted)) (λ apart noted. noted) (may other is)
+
+      same : AreSame (procs_of program) (halted (seen program pipes m turned) pid
+          (place_by program phase (turned pid)) (waits_by phase (turned pid))
+          (notes_by phase (turned pid) set) next)
+          (seen program next (turned_to m pid phase set) turned)
+      same =
+          record {
+            place = λ other less. by_one pid other
+                (λ test. (if test then place_by program phase (turned pid)
+                else place_by program (m.phase other) (turned other))
+                ≡ place_by program (if test then phase else m.phase other) (turned other))
+                (λ is. ap (λ (n : ℕ). place_by program phase (turned n)) (sym is))
+                (λ apart. refl);
+            waits = λ other less. by_one pid other
+                (λ test. (if test then waits_by phase (turned pid)
+                else waits_by (m.phase other) (turned other))
+                ≡ waits_by (if test then phase else m.phase other) (turned other))
+                (λ is. ap (λ (n : ℕ). waits_by phase (turned n)) (sym is))
+                (λ apart. refl);
+            notes = λ other less. by_one pid other
+                (λ test. (if test then notes_by phase (turned pid) set
+                else notes_by (m.phase other) (turned other) (m.notes other))
+                ≡ notes_by (if test then phase else m.phase other) (turned other)
+                (if test then set else m.notes other))
+                (λ is. ap (λ (n : ℕ). notes_by phase (turned n) set) (sym is))
+                (λ apart. refl);
+            values = refl;
+            pipes = refl;
+            line = λ what. refl;
+          }
+
+  -- to where it is at a place, or will be
+  leads_to : (phase : Phase) (to : ℕ) (set : NoteSet) (next : List Direction)
+      → GoesTo program phase to
+      → ((turned : ℕ → Bool) → Reaches program (seen program pipes m turned)
+      → Reaches program (halted (seen program pipes m turned) pid to Free set next))
+      → Follows program next (turned_to m pid phase set)
+  leads_to phase to set next done step =
+      follows_so phase set next done.stays
+      (λ turned reaches.
+      subst (λ (n : ℕ). Reaches program (halted (seen program pipes m turned) pid n
+      (waits_by phase (turned pid)) (notes_by phase (turned pid) set) next))
+      (sym (done.place (turned pid)))
+      (subst (λ (h : Halt). Reaches program (halted (seen program pipes m turned) pid to h
+      (notes_by phase (turned pid) set) next)) (sym (done.waits (turned pid)))
+      (subst (λ (n : NoteSet). Reaches program (halted (seen program pipes m turned) pid to Free n
+      next)) (sym (done.notes (turned pid) set)) (step turned reaches))))
+
+  -- ---- one that makes its call, or stands amid it
+
+  -- the process before it
+  record IsAs (place : ℕ) (halt : Halt) : Type 0 where
+    place_is : (turned : ℕ → Bool) → (seen program pipes m turned).place pid ≡ place
+    waits_is : (turned : ℕ → Bool) → (seen program pipes m turned).waits pid ≡ halt
+    notes_is : (turned : ℕ → Bool) → (seen program pipes m turned).notes pid ≡ m.notes pid
+
+  is_free : (place : ℕ) → m.phase pid ≡ Is place → IsAs place Free
+  is_free place is =
+      record {
+        place_is = λ turned. ap (λ (p : Phase). place_by program p (turned pid)) is;
+        waits_is = λ turned. ap (λ (p : Phase). waits_by p (turned pid)) is;
+        notes_is = λ turned. ap (λ (p : Phase). notes_by p (turned pid) (m.notes pid)) is;
+      }
+
+  is_blocked : (place : ℕ) → m.phase pid ≡ Has place Blocks → IsAs place (Stays Blocks)
+  is_blocked place is =
+      record {
+        place_is = λ turned. ap (λ (p : Phase). place_by program p (turned pid)) is;
+        waits_is = λ turned. ap (λ (p : Phase). waits_by p (turned pid)) is;
+        notes_is = λ turned. ap (λ (p : Phase). notes_by p (turned pid) (m.notes pid)) is;
+      }
+
+  has_put : (place : ℕ) → m.phase pid ≡ Has place Wrote → IsAs place (Stays Wrote)
+  has_put place is =
+      record {
+        place_is = λ turned. ap (λ (p : Phase). place_by program p (turned pid)) is;
+        waits_is = λ turned. ap (λ (p : Phase). waits_by p (turned pid)) is;
+        notes_is = λ turned. ap (λ (p : Phase). notes_by p (turned pid) (m.notes pid)) is;
+      }
+
+  -- a position where its notes, or its place, are said by those before it
+  with_notes : (turned : ℕ → Bool) (to : ℕ) (halt : Halt) (next : List Direction) (now : NoteSet)
+      → (seen program pipes m turned).notes pid ≡ now
+      → Reaches program (halted (seen program pipes m turned) pid to halt
+      ((seen program pipes m turned).notes pid) next)
+      → Reaches program (halted (seen program pipes m turned) pid to halt now next)
+  with_notes turned to halt next now is =
+      subst (λ (n : NoteSet).
+      Reaches program (halted (seen program pipes m turned) pid to halt n next)) is
+
+  module _ (place : ℕ) (line : Line) (line_is : slice_get program.lines place ≡ Some line) where
+    its_line : (halt : Halt) → IsAs place halt → (turned : ℕ → Bool)
+        → slice_get program.lines ((seen program pipes m turned).place pid) ≡ Some line
+    its_line halt shown turned = ap (slice_get program.lines) (shown.place_is turned) ∙ line_is
+
+    making : MayBegin place (m.phase pid) → (turned : ℕ → Bool)
+        → IsMaking program (seen program pipes m turned) pid line
+    making (inl is) turned =
+        let shown = is_free place is in
+        record {
+          low = low;
+          line_is = its_line Free shown turned;
+          waits = inl (shown.waits_is turned);
+        }
+    making (inr is) turned =
+        let shown = is_blocked place is in
+        record {
+          low = low;
+          line_is = its_line (Stays Blocks) shown turned;
+          waits = inr (shown.waits_is turned);
+        }
+
+    -- its notes and its place are as they are said to be
+    begin_notes : MayBegin place (m.phase pid) → (turned : ℕ → Bool)
+        → (seen program pipes m turned).notes pid ≡ m.notes pid
+    begin_notes (inl is) = (is_free place is).notes_is
+    begin_notes (inr is) = (is_blocked place is).notes_is
+
+    begin_place : MayBegin place (m.phase pid) → (turned : ℕ → Bool)
+        → (seen program pipes m turned).place pid ≡ place
+    begin_place (inl is) = (is_free place is).place_is
+    begin_place (inr is) = (is_blocked place is).place_is
+
+    -- it stays at its place
+    stays_so : (halt : Halt) (next : List Direction) → MayBegin place (m.phase pid)
+        → (turned : ℕ → Bool)
+        → Reaches program (halted (seen program pipes m turned) pid
+        ((seen program pipes m turned).place pid) halt ((seen program pipes m turned).notes pid)
+        next)
+        → Reaches program (halted (seen program pipes m turned) pid place halt (m.notes pid) next)
+    stays_so halt next may turned reaches =
+        subst (λ (n : ℕ).
+        Reaches program (halted (seen program pipes m turned) pid n halt (m.notes pid) next))
+        (begin_place may turned)
+        (with_notes turned _ halt next (m.notes pid) (begin_notes may turned) reaches)
+
+    module _ (pipe : ℕ) (x : Direction) (there : slice_get pipes pipe ≡ Some x)
+        (at_call : pipe_of line.call ≡ pipe) where
+      -- ---- a write
+
+      module _ (bytes : ℕ) (made : line.call ≡ call.Write pipe bytes None) where
+        -- it is accepted where there is room
+        pub write_taken : MayBegin place (m.phase pid) → x.is_hung ≡ false
+            → nat_lt (length x.writes) (limit_at program pipe) ≡ true
+            → Follows program (slice_set pipes pipe (accepted pid bytes x))
+            (turned_to m pid (Has place Wrote) (m.notes pid))
+        write_taken may stays room =
+            follows_so (Has place Wrote) (m.notes pid) _ (λ noted. noted)
+            (λ turned reaches. stays_so (Stays Wrote) _ may turned
+            (steps.write_taken program (seen program pipes m turned) reaches pid line pipe x there
+            at_call bytes made (making may turned) stays room))
+
+        -- or there is no room
+        pub write_blocked : m.phase pid ≡ Is place → x.is_hung ≡ false
+            → nat_lt (length x.writes) (limit_at program pipe) ≡ false
+            → Follows program pipes (turned_to m pid (Has place Blocks) (m.notes pid))
+        write_blocked is stays full =
+            follows_so (Has place Blocks) (m.notes pid) _ (λ noted. noted)
+            (λ turned reaches. stays_so (Stays Blocks) _ (inl is) turned
+            (steps.write_blocked program (seen program pipes m turned) reaches pid line pipe x there
+            at_call bytes made (making (inl is) turned) ((is_free place is).waits_is turned) stays
+            full))
+
+        -- or the direction is hung up
+        pub write_refused : MayBegin place (m.phase pid) → x.is_hung ≡ true
+            → Follows program pipes
+            (turned_to m pid (Served line.closed (only ClosedPipe)) (m.notes pid))
+        write_refused may hangs =
+            follows_so (Served line.closed (only ClosedPipe)) (m.notes pid) _ (λ noted. noted)
+            (λ turned reaches.
+            subst (λ (n : NoteSet). Reaches program (halted (seen program pipes m turned) pid
+            line.closed Free (joined n (only ClosedPipe)) pipes)) (begin_notes may turned)
+            (steps.write_refused program (seen program pipes m turned) reaches pid line pipe x there
+            at_call bytes made (making may turned) hangs))
+
+      -- it stands, and the process goes on
+      pub write_stands : m.phase pid ≡ Has place Wrote → (phase : Phase)
+          → GoesTo program phase line.next
+          → Follows program (slice_set pipes pipe (stood pid x)) (turned_to m pid phase (m.notes
+          pid))
+      write_stands is phase done =
+          leads_to phase line.next (m.notes pid) _ done
+          (λ turned reaches. with_notes turned line.next Free _ (m.notes pid)
+          ((has_put place is).notes_is turned)
+          (steps.write_stands program (seen program pipes m turned) reaches pid line pipe x there
+          at_call low (its_line (Stays Wrote) (has_put place is) turned)
+          ((has_put place is).waits_is turned)))
+
+      -- ---- a hangup
+
+      -- the direction is hung up, and the process goes on
+      pub hangs_up : m.phase pid ≡ Is place → line.call ≡ call.Hangup pipe → (phase : Phase)
+          → GoesTo program phase line.next
+          → Follows program (slice_set pipes pipe (hung x)) (turned_to m pid phase (m.notes pid))
+      hangs_up is made phase done =
+          leads_to phase line.next (m.notes pid) _ done
+          (λ turned reaches. with_notes turned line.next Free _ (m.notes pid)
+          ((is_free place is).notes_is turned)
+          (steps.hangs_up program (seen program pipes m turned) reaches pid line pipe x there
+          at_call low (its_line Free (is_free place is) turned)
+          ((is_free place is).waits_is turned) made))
+
+      -- ---- a read
+
+      module _ (room : ℕ) where
+        -- a read that waits takes the bytes of a message
+        pub read_takes : line.call ≡ call.Read pipe room None → MayBegin place (m.phase pid)
+            → is_stream_at program pipe ≡ false → finds x ≡ found.Bytes
+            → (phase : Phase) → GoesTo program phase line.next
+            → Follows program (slice_set pipes pipe (read_from room x))
+            (turned_to m pid phase (m.notes pid))
+        read_takes made may message is phase done =
+            leads_to phase line.next (m.notes pid) _ done
+            (λ turned reaches. with_notes turned line.next Free _ (m.notes pid)
+            (begin_notes may turned)
+            (steps.making_on program (seen program pipes m turned) reaches pid line _
+            (making may turned)
+            (steps.read_early program (seen program pipes m turned) reaches pid line pipe x there
+            at_call room (inl made))
+            (steps.read_answered program (seen program pipes m turned) reaches pid line pipe x there
+            at_call room (inl made) found.Bytes is refl made)
+            (steps.bytes_shown program (seen program pipes m turned) reaches pid line pipe x there
+            at_call room (inl made) message low
+            (steps.makes_outside _ (making may turned).waits) is)))
+
+        -- or finds the end
+        pub read_ends : line.call ≡ call.Read pipe room None → MayBegin place (m.phase pid)
+            → finds x ≡ found.End → (phase : Phase) → GoesTo program phase line.closed
+            → Follows program pipes (turned_to m pid phase (m.notes pid))
+        read_ends made may is phase done =
+            leads_to phase line.closed (m.notes pid) _ done
+            (λ turned reaches. with_notes turned line.closed Free _ (m.notes pid)
+            (begin_notes may turned)
+            (steps.making_on program (seen program pipes m turned) reaches pid line _
+            (making may turned)
+            (steps.read_early program (seen program pipes m turned) reaches pid line pipe x there
+            at_call room (inl made))
+            (steps.read_answered program (seen program pipes m turned) reaches pid line pipe x there
+            at_call room (inl made) found.End is refl made)
+            (steps.end_shown program (seen program pipes m turned) reaches pid line pipe x there
+            at_call room (inl made) low
+            (steps.makes_outside _ (making may turned).waits) is)))
+
+        -- or finds nothing, and waits
+        pub read_blocked : line.call ≡ call.Read pipe room None → m.phase pid ≡ Is place
+            → finds x ≡ found.Nothing
+            → Follows program pipes (turned_to m pid (Has place Blocks) (m.notes pid))
+        read_blocked made is none =
+            follows_so (Has place Blocks) (m.notes pid) _ (λ noted. noted)
+            (λ turned reaches. stays_so (Stays Blocks) _ (inl is) turned
+            (steps.making_first program (seen program pipes m turned) reaches pid line _ low
+            (its_line Free (is_free place is) turned) ((is_free place is).waits_is turned)
+            (steps.read_early program (seen program pipes m turned) reaches pid line pipe x there
+            at_call room (inl made))
+            (steps.nothing_shown program (seen program pipes m turned) reaches pid line pipe x there
+            at_call room (inl made) low
+            (steps.makes_outside _ (making (inl is) turned).waits) none made)))
+
+        -- one that does not wait, by where it leads
+        try_step : line.call ≡ call.TryRead pipe room → m.phase pid ≡ Is place
+            → (to : ℕ) (next : List Direction) (phase : Phase) → GoesTo program phase to
+            → ((turned : ℕ → Bool) (reaches : Reaches program (seen program pipes m turned))
+            → steps.IsOutside ((seen program pipes m turned).waits pid)
+            → steps.Showing program (seen program pipes m turned) reaches pid line
+            (halted (seen program pipes m turned) pid to Free
+            ((seen program pipes m turned).notes pid) next))
+            → Follows program next (turned_to m pid phase (m.notes pid))
+        try_step made is to next phase done shows =
+            leads_to phase to (m.notes pid) _ done
+            (λ turned reaches. with_notes turned to Free _ (m.notes pid)
+            ((is_free place is).notes_is turned)
+            (steps.making_first program (seen program pipes m turned) reaches pid line _ low
+            (its_line Free (is_free place is) turned) ((is_free place is).waits_is turned)
+            (steps.read_early program (seen program pipes m turned) reaches pid line pipe x there
+            at_call room (inr made))
+            (shows turned reaches
+            (steps.makes_outside _ (making (inl is) turned).waits))))
+
+        -- it takes the bytes of a message
+        pub try_takes : line.call ≡ call.TryRead pipe room → m.phase pid ≡ Is place
+            → is_stream_at program pipe ≡ false → finds x ≡ found.Bytes
+            → (phase : Phase) → GoesTo program phase line.next
+            → Follows program (slice_set pipes pipe (read_from room x))
+            (turned_to m pid phase (m.notes pid))
+        try_takes made is message bytes phase done =
+            try_step made is line.next _ phase done
+            (λ turned reaches outside. steps.bytes_shown program (seen program pipes m turned)
+            reaches pid line pipe x there at_call room (inr made) message low outside bytes)
+
+        -- or finds the end
+        pub try_ends : line.call ≡ call.TryRead pipe room → m.phase pid ≡ Is place
+            → finds x ≡ found.End → (phase : Phase) → GoesTo program phase line.closed
+            → Follows program pipes (turned_to m pid phase (m.notes pid))
+        try_ends made is end phase done =
+            try_step made is line.closed _ phase done
+            (λ turned reaches outside. steps.end_shown program (seen program pipes m turned)
+            reaches pid line pipe x there at_call room (inr made) low outside end)
+
+        -- or finds nothing, and goes the other way
+        pub try_fails : line.call ≡ call.TryRead pipe room → m.phase pid ≡ Is place
+            → finds x ≡ found.Nothing → (phase : Phase) → GoesTo program phase line.other
+            → Follows program pipes (turned_to m pid phase (m.notes pid))
+        try_fails made is none phase done =
+            try_step made is line.other _ phase done
+            (λ turned reaches outside. steps.other_shown program (seen program pipes m turned)
+            reaches pid line pipe x there at_call room (inr made) low outside none made)
+
+    -- ---- notes end its wait
+
+    -- the process takes its notes and goes the other way
+    pub turns_away : m.phase pid ≡ Has place Blocks → has_notes (m.notes pid) ≡ true
+        → (phase : Phase) → GoesTo program phase line.other
+        → Follows program pipes (turned_to m pid phase no_notes)
+    turns_away is notes phase done =
+        leads_to phase line.other no_notes _ done
+        (λ turned reaches.
+        steps.turns_away program (seen program pipes m turned) reaches pid line low
+        (its_line (Stays Blocks) (is_blocked place is) turned)
+        ((is_blocked place is).waits_is turned)
+        (ap has_notes ((is_blocked place is).notes_is turned) ∙ notes))
