@@ -26,6 +26,8 @@ use Rattle.calls.specs.declared.call.Call.{Call}
 use Rattle.calls.specs.declared.call.Call.TheVariants as call
 use Rattle.calls.specs.declared.ending.Ending.TheVariants as ending
 use Rattle.calls.specs.declared.ending.Ending.{Ending}
+use Rattle.tag_space.specs.declared.place.Place.{Place}
+use Rattle.tag_space.specs.GroupObject.{place_of}
 use Rattle.calls.specs.declared.line.Line.{Line}
 use Rattle.calls.specs.declared.process.Want.TheVariants as want
 use Rattle.calls.specs.Calls.{can_call}
@@ -59,6 +61,8 @@ use Rattle.shown_runs.specs.ShownRuns.{arrived, rendez_at, spot_of}
 use Rattle.shown_runs.proofs.Acts.{Here, Known, Leads, Stays, asks, falls_asleep, is_noted, on}
 use Rattle.shown_runs.proofs.Acts.{with_state}
 use Rattle.shown_runs.proofs.Quiet.{such_calls}
+use Rattle.shown_runs.proofs.Quiet.{Placed, SpaceFrame, is_meeting, meeting_apart, placed_still}
+use Rattle.shown_runs.proofs.Quiet.{space_by, space_words}
 use Rattle.shown_runs.proofs.Quiet.{Changed, Frame, IsAsleep, IsIdle, IsLined, Quiet, Rests}
 use Rattle.shown_runs.proofs.Quiet.{SameSeat, Stands, StandsBy, frame_far, rendez, rests_own}
 use Rattle.shown_runs.proofs.Quiet.{rests_still, sema_at}
@@ -187,6 +191,7 @@ module _ (program : Program) (given : Spot → Given) (objects : Objects) where
         elsewhere = λ other apart. ap (λ (o : ObjectStates). sema_state objects o other) is
             ∙ get_or-set_other at.object.semas sema other _ _ apart;
         choices = ap (λ (o : ObjectStates). o.choices) is;
+        space = ap (λ (o : ObjectStates). o.space) is;
       }
 
   -- what a process has at a semaphore stays, where no word changes
@@ -248,6 +253,13 @@ module _ (program : Program) (given : Spot → Given) (objects : Objects) where
             subst (λ (w : Halt). Rests program given objects at pid w Waiting (q.notes pid)
             most) is (quiet.each pid low).rests
 
+        -- and what the space has of it
+        pub placed_of : (waits : Halt) → q.waits pid ≡ waits
+            → Placed program given objects at pid (is_meeting program given objects waits) most
+        placed_of waits is =
+            subst (λ (w : Halt). Placed program given objects at pid
+            (is_meeting program given objects w) most) is (quiet.each pid low).placed
+
         -- what is known of one that is about to make its call
         abbrev pub begins : ProgramState Spot ObjectCall → ℕ
             → Here (such_calls program given objects)
@@ -300,6 +312,8 @@ module _ (program : Program) (given : Spot → Given) (objects : Objects) where
           -- the lines of the others stay too
           pub lines : (other : ℕ) → other ≢ sema
               → now.line (want.Unit other) ≡ q.line (want.Unit other)
+          -- and those who wait for partners stay
+          pub partners : (tag : ℕ) → now.line (want.Partner tag) ≡ q.line (want.Partner tag)
 
         -- a call that one request makes, which grants nobody a unit and lets nobody wait
         pub goes_by_request : (now : Queued) (sema to : ℕ) (t : SemaState) (hold : Hold)
@@ -337,6 +351,7 @@ module _ (program : Program) (given : Spot → Given) (objects : Objects) where
                     counted = leads.counted;
                     values = leads.values;
                     lines = leads.lines;
+                    partners = leads.partners;
                   });
             }
           where
@@ -374,6 +389,12 @@ module _ (program : Program) (given : Spot → Given) (objects : Objects) where
                       (every _ _ _ led.stays.levels led.known.now.level_is) changed (λ same. seats
                       pid low))
                       led.known.now.flags_is (omega arith);
+                  placed = placed_still program given objects at led.next pid false most (suc most)
+                      (placed_of Free none)
+                      (space_words program given objects at led.next pid
+                      (every _ _ _ led.stays.posted led.known.now.posted_is)
+                      (every _ _ _ led.stays.levels led.known.now.level_is) changed.space)
+                      (omega arith);
                 }
 
         module _ (sema : ℕ) (there : sema < length program.values) where
@@ -394,6 +415,18 @@ module _ (program : Program) (given : Spot → Given) (objects : Objects) where
           out_of_line : (other : ℕ) → other ≢ sema
               → is_for (want.Unit other) (For (want.Unit sema)) ≡ false
           out_of_line other apart = apart_numbers other sema (λ same. apart (sym same))
+
+          -- and what the process has in the space
+          beside_space : (next : Position (library_of program given objects)) (t : SemaState)
+              → Stays (such_calls program given objects) pid pid
+              (rendez program given objects sema pid) at next
+              → Changed program given objects at next sema t
+              → SpaceFrame program given objects at next pid
+          beside_space next t stays changed =
+              space_by program given objects are at next (rendez program given objects sema pid) pid
+              stays.posted stays.levels
+              (meeting_apart program given objects are sema pid pid there low low)
+              (ap (λ (places : List Place). place_of places pid) changed.space)
 
           -- acts at the semaphore leave what the process has at the others
           beside : (next : Position (library_of program given objects)) (t : SemaState)
@@ -506,6 +539,9 @@ module _ (program : Program) (given : Spot → Given) (objects : Objects) where
                             (sym changed.here)
                             (let few = rests.few sema there in omega arith);
                       }) asleep.known.now.flags_is (omega arith);
+                  placed = placed_still program given objects at asleep.next pid false most
+                      (suc most) (placed_of Free none)
+                      (beside_space asleep.next _ asleep.stays changed) (omega arith);
                 }
 
             -- So a semacquire that finds no unit comes to where the explorer's process waits.
@@ -552,6 +588,7 @@ module _ (program : Program) (given : Spot → Given) (objects : Objects) where
                         counted = refl;
                         values = λ other apart. refl;
                         lines = λ other apart. rw (apart_numbers sema other apart) refl;
+                        partners = λ tag. refl;
                       });
                 }
 
@@ -695,6 +732,9 @@ module _ (program : Program) (given : Spot → Given) (objects : Objects) where
                             (sym changed_away.here)
                             (let few = waits_there.few sema there in omega arith);
                       }) away.known.now.flags_is (omega arith);
+                  placed = placed_still program given objects at away.next pid false most
+                      (suc most) (placed_of (For (want.Unit sema)) waits)
+                      (beside_space away.next _ away.stays changed_away) (omega arith);
                 }
 
             -- So a wait that notes end comes to where the explorer's process has turned away.
@@ -744,5 +784,6 @@ module _ (program : Program) (given : Spot → Given) (objects : Objects) where
                         counted = refl;
                         values = λ other apart. refl;
                         lines = λ other apart. rw (apart_numbers sema other apart) refl;
+                        partners = λ tag. refl;
                       });
                 }

@@ -2,6 +2,7 @@
 use Rattle.std.proofs.Common.{◌≡◌, ◌⊎◌, inl, inr, ℕ, ◌<◌, ◌≤◌, Bool, true, false, Option, Some}
 use Rattle.std.proofs.Common.{None, List, [], length, refl, sym, ap, ◌∙◌, subst}
 use Rattle.std.specs.Prelude.{slice_get}
+use Rattle.sync_base.specs.declared.ids.RendezId.{RendezId}
 use Rattle.sleep_core.specs.declared.answer.Answer.TheVariants as answer
 use Rattle.sleep_core.specs.declared.event.Event.TheVariants.{Look}
 use Rattle.sleep_core.specs.declared.phase.Phase.{Phase}
@@ -16,6 +17,7 @@ use Rattle.searches.specs.Schedule.{ComesToStuck, position_of}
 use Rattle.searches.specs.Stuck.{is_stuck}
 use Rattle.semaphore.specs.declared.limits.TheConstants.{LAST_GRANT}
 use Rattle.semaphore.specs.Units.{grants_of}
+use Rattle.tag_space.specs.Members.{rendez_of_member}
 use Rattle.calls.specs.declared.course.Course.TheVariants as course
 use Rattle.calls.specs.declared.line.Line.{Line}
 use Rattle.calls.specs.declared.process.Want.{Want}
@@ -25,26 +27,29 @@ use Rattle.calls.specs.Position.{Position}
 use Rattle.calls.specs.Program.{IsProgram, Program, procs_of}
 use Rattle.schedules.specs.Program.{proc}
 use Rattle.call_machines.specs.Ends.{HasEnded, HasStopped, IsParked}
+use Rattle.call_machines.specs.Machine.{Next}
 use Rattle.call_machines.specs.Programs as machines
 use Rattle.call_machines.specs.Programs.{ProgramState, rests_at}
 use Rattle.call_machines.specs.Programs.ProgramState.{Ended, In}
 use Rattle.call_machines.specs.Runs.{OwnState, event_for, own_in, world_at}
 use Rattle.call_machines.specs.Schedules as runs
+use Rattle.call_machines.specs.Schedules.{state_of}
 use Rattle.call_machines.specs.WaitTables.WaitState.{Waits}
 use Rattle.sema_machines.specs.SemaRuns.CallState.{Takes}
 use Rattle.object_machines.specs.ObjectCalls.{ObjectCall, Objects, object_calls}
-use Rattle.object_machines.specs.ObjectCalls.ObjectCall.{AtSema}
+use Rattle.space_machines.specs.MeetMachine.MeetState.{Calls}
+use Rattle.object_machines.specs.ObjectCalls.ObjectCall.{AtSema, InSpace}
 use Rattle.explored_calls.specs.LibraryCalls.{AreItsObjects, Given, Spot, is_at_head, is_served_in}
 use Rattle.explored_calls.specs.LibraryCalls.{library_of, library_program, spot_in}
 use Rattle.explored_calls.proofs.Queued.{Halt, Queued, Shows}
 use Rattle.explored_calls.proofs.Queued.Halt.{For, Free, Stays}
 use Rattle.shown_runs.specs.ShownRuns.{AreShownCalls, Deadlocks, NoneIsStuck}
-use Rattle.shown_runs.specs.ShownRuns.{arrived, rendez_at, spot_of}
+use Rattle.shown_runs.specs.ShownRuns.{arrived, offered_at, rendez_at, spot_of}
 use Rattle.shown_runs.specs.ShownRuns.{with_choices}
 use Rattle.shown_runs.proofs.CallSteps.{in_library, procs_are}
 use Rattle.shown_runs.proofs.Opening.{followed}
-use Rattle.shown_runs.proofs.Quiet.{NoneStays, none_stays, such_calls}
-use Rattle.shown_runs.proofs.Quiet.{IsAsleep, Quiet, StandsBy, sema_at}
+use Rattle.shown_runs.proofs.Quiet.{NoneStays, none_stays, place_at, such_calls}
+use Rattle.shown_runs.proofs.Quiet.{Quiet, StandsBy, sema_at}
 use Rattle.shown_runs.proofs.ShownLemmas.{RunTo, comes, run_to, state_after}
 use Rattle.shown_runs.proofs.StuckLemmas.{HasEndedAt, Starves, WaitsAt, each_stopped}
 use Rattle.shown_runs.proofs.StuckLemmas.{one_starves}
@@ -53,19 +58,49 @@ module _ (program : Program) (given : Spot → Given) (objects : Objects) (q : Q
     (ways : List Bool) (at : runs.Position (library_of program given objects))
     (quiet : Quiet program given objects q most ways at)
     (to : RunTo (such_calls program given objects) at) where
-  -- the call of a process that waits
+  -- a process that sleeps in its call
+  record IsSleeping (pid : ℕ) : Type 0 where
+    rendez_is : RendezId
+    number : ℕ
+    made : ObjectCall
+    state_is : state_of (library_of program given objects) at pid
+        ≡ In (spot_of pid (q.place pid)) made
+    sleeps : (library_of program given objects).machine.does (In (spot_of pid (q.place pid)) made)
+        ≡ Next.Sleep rendez_is number
+    phase_is : phase_of at.world pid ≡ phase.Asleep rendez_is number
+
+  -- each that waits does so
   asleep_so : (pid : ℕ) → pid < procs_of program → (what : Want) → q.waits pid ≡ For what
-      → (sema : ℕ) × (what ≡ want.Unit sema) × IsAsleep program given objects at pid (q.place pid)
-      sema
-  asleep_so pid low (want.Unit sema) waits = (
-    sema,
-    refl,
-    subst (λ (w : Halt). StandsBy program given objects at pid (q.place pid) w) waits
-        (quiet.each pid low).stands,
-  )
-  asleep_so pid low (want.Partner tag) waits =
-      absurd (subst (λ (w : Halt). StandsBy program given objects at pid (q.place pid) w)
+      → IsSleeping pid
+  asleep_so pid low what waits =
+      by what (subst (λ (w : Halt). StandsBy program given objects at pid (q.place pid) w)
       waits (quiet.each pid low).stands)
+    where
+      by : (wanted : Want) → StandsBy program given objects at pid (q.place pid) (For wanted)
+          → IsSleeping pid
+      by (want.Unit sema) asleep =
+          record {
+            rendez_is = rendez_at objects sema pid;
+            number = grants_of (sema_at program given objects at sema) pid;
+            made = AtSema sema (Takes pid
+                (Waits (grants_of (sema_at program given objects at sema) pid)));
+            state_is = asleep.state_is;
+            sleeps = refl;
+            phase_is = asleep.phase_is;
+          }
+      by (want.Partner tag) meets =
+          record {
+            rendez_is = rendez_of_member objects.space pid;
+            number = (place_at program given objects at pid).meetings;
+            made = InSpace (record {
+              member = pid;
+              offered = offered_at given pid (q.place pid) tag;
+              at = Calls (Waits (place_at program given objects at pid).meetings);
+            });
+            state_is = meets.state_is;
+            sleeps = refl;
+            phase_is = meets.phase_is;
+          }
 
   -- where no line is, all calls are over
   ended_after : (pid : ℕ) → pid < procs_of program
@@ -90,17 +125,19 @@ module _ (program : Program) (given : Spot → Given) (objects : Objects) (q : Q
       by (For (want.Unit sema)) asleep =
           let some = asleep.line_is in
           absurd (let both : None ≡ Some asleep.line = sym none ∙ some in cc)
-      by (For (want.Partner tag)) nothing = absurd nothing
+      by (For (want.Partner tag)) meets =
+          let some = meets.line_is in
+          absurd (let both : None ≡ Some meets.line = sym none ∙ some in cc)
       by (Stays amid) nothing = absurd nothing
 
   -- whoever waits without notes is parked
   parked_after : (pid : ℕ) → pid < procs_of program → has_notes (q.notes pid) ≡ false
-      → (sema : ℕ) → IsAsleep program given objects at pid (q.place pid) sema
+      → IsSleeping pid
       → IsParked (world_at (library_of program given objects) to.run)
       (event_for pid (own_in (library_of program given objects) pid to.run).stage
       ((library_of program given objects).machine.does
       (own_in (library_of program given objects) pid to.run).at))
-  parked_after pid low none sema asleep =
+  parked_after pid low none asleep =
       subst (λ (o : OwnState (library_of program given objects).machine).
       IsParked (world_at (library_of program given objects) to.run)
       (event_for pid o.stage ((library_of program given objects).machine.does o.at)))
@@ -108,22 +145,18 @@ module _ (program : Program) (given : Spot → Given) (objects : Objects) (q : Q
         Look (proc pid),
         ap (λ (s : ProgramState Spot ObjectCall). event_for pid (phase_of at.world pid)
             ((library_of program given objects).machine.does s)) asleep.state_is
-            ∙ ap (λ (p : Phase). event_for pid p ((library_of program given objects).machine.does
-            (In (spot_of pid (q.place pid)) (AtSema sema (Takes pid
-            (Waits (grants_of (sema_at program given objects at sema) pid)))))))
-            asleep.phase_is,
+            ∙ (ap (λ (p : Phase). event_for pid p ((library_of program given objects).machine.does
+            (In (spot_of pid (q.place pid)) asleep.made))) asleep.phase_is
+            ∙ ap (event_for pid (phase.Asleep asleep.rendez_is asleep.number)) asleep.sleeps),
         ap (λ (w : State). answer_to w (Look (proc pid))) to.world ∙ parked.answered,
       )
     where
       parked : FollowsTable at.world (Look (proc pid))
-          (phase.Asleep (rendez_at objects sema pid)
-          (grants_of (sema_at program given objects at sema) pid)) answer.Parked
+          (phase.Asleep asleep.rendez_is asleep.number) answer.Parked
           (Flags (record { wake = false; notes = q.notes pid }))
-          (phase.Asleep (rendez_at objects sema pid)
-          (grants_of (sema_at program given objects at sema) pid))
+          (phase.Asleep asleep.rendez_is asleep.number)
       parked =
-          look_parked at.world (proc pid) (rendez_at objects sema pid)
-          (grants_of (sema_at program given objects at sema) pid)
+          look_parked at.world (proc pid) asleep.rendez_is asleep.number
           (record { wake = false; notes = q.notes pid }) refl none
           (record {
             exists = subst (λ (n : ℕ). pid < n) (sym quiet.sized.phases)
@@ -170,7 +203,7 @@ module _ (program : Program) (given : Spot → Given) (objects : Objects)
           let asleep = asleep_so program given (with_choices objects choices) q most ways at quiet
           to pid low waits.what waits.waits in
           inr (parked_after program given (with_choices objects choices) q most ways at quiet to pid
-          low waits.none asleep.0 asleep.2)
+          low waits.none asleep)
 
   -- and one waits where it should not
   starves : Starves program shown q position shows stuck
@@ -187,7 +220,7 @@ module _ (program : Program) (given : Spot → Given) (objects : Objects)
       pid low what waits in
       ap (rests_at (is_at_head program))
       (state_after program given (with_choices objects choices) q most ways at quiet to pid _
-      asleep.2.state_is)
+      asleep.state_is)
       ∙ (ap is_served_in line_is ∙ not_served)
 
   -- So the run is a deadlock, which has stopped with one who should not wait.

@@ -4,6 +4,7 @@ pub mod DeadlockLemmas
 pub mod Following
 pub mod Grants
 pub mod LawLemmas
+pub mod MeetSteps
 pub mod Opening
 pub mod OwnSteps
 pub mod Played

@@ -1,6 +1,7 @@
 -- At first the library's calls are quiet, as the explorer has it; and so they come to each position
 -- of a schedule.
-use Rattle.std.proofs.Common.{◌≡◌, ◌⊎◌, inl, inr, ℕ, zero, suc, ◌+◌, ◌<◌, ◌≤◌, Bool}
+use Rattle.std.proofs.Common.{Some, false, Option, ◌≡◌, ◌⊎◌, inl, inr, ℕ, zero, suc, ◌+◌, ◌<◌, ◌≤◌}
+use Rattle.std.proofs.Common.{Bool}
 use Rattle.std.proofs.Common.{None, List, [], ◌∷◌, length, map, refl, sym, ap}
 use Rattle.std.proofs.Common.{◌∙◌, subst, arith}
 use Rattle.std.specs.Option.{option_map}
@@ -16,6 +17,9 @@ use Rattle.searches.specs.Schedule.{CanMove, IsSchedule, position_of}
 use Rattle.semaphore.specs.declared.limits.TheConstants.{LAST_GRANT}
 use Rattle.semaphore.specs.declared.sema_object.Stage.TheVariants.{Idle, Waiting}
 use Rattle.semaphore.specs.Units.{SemaState, grants_of, stage_of}
+use Rattle.tag_space.specs.declared.place.Place.{Place}
+use Rattle.tag_space.specs.GroupObject as space
+use Rattle.tag_space.specs.GroupObject.{fresh_place, waiter_of, waits_with}
 use Rattle.calls.specs.declared.course.Course.{Course}
 use Rattle.calls.specs.declared.course.Course.TheVariants as course
 use Rattle.calls.specs.Machine.{system_of}
@@ -33,6 +37,8 @@ use Rattle.explored_calls.proofs.Queued.Halt.{Free}
 use Rattle.shown_runs.specs.ShownRuns.{AreShownCalls, arrived, with_choices}
 use Rattle.shown_runs.proofs.CallSteps.{starts_long}
 use Rattle.shown_runs.proofs.Played.{PlaysTo, ReachesNever, StepsTo, are_with, steps}
+use Rattle.explored_calls.proofs.SpaceFacts.{none_wait, waiter_waits, waits_in}
+use Rattle.shown_runs.proofs.Quiet.{Placed, line_of, meeting, place_at}
 use Rattle.shown_runs.proofs.Quiet.{IsLined, NoneStays, Quiet, Rests, none_stays, rendez, sema_at}
 
 starts_at : (program : Program) (first : ℕ) (places : List ℕ) (i : ℕ) → i < length places
@@ -73,6 +79,20 @@ first_shows program =
       pipes = refl;
       lines = record { seats = λ what. tt; stands = λ what pid low. refl };
     }
+
+-- at first nobody waits with a tag
+nobody_first : (members tag : ℕ) → waiter_of (space.opening members 0) tag ≡ None
+nobody_first members tag = by (waiter_of (space.opening members 0) tag) refl
+  where
+    by : (found : Option ℕ) → waiter_of (space.opening members 0) tag ≡ found → found ≡ None
+    by None is = refl
+    by (Some waiter) is =
+        let waits = waiter_waits (space.opening members 0) tag waiter is in
+        let idle : waits_in (space.opening members 0) tag waiter ≡ false =
+        ap (λ (p : Place). waits_with tag p.state)
+        (get_or-replicate_same {X = Place} members waiter (fresh_place 0)) in
+        let yes_waits = waits.1 in
+        absurd cc
 
 module _ (program : Program) (given : Spot → Given) (objects : Objects)
     (are : AreItsObjects program objects) where
@@ -124,6 +144,26 @@ module _ (program : Program) (given : Spot → Given) (objects : Objects)
             rw same (omega arith);
       }
 
+  first_placed : (pid : ℕ)
+      → Placed program given objects (runs.position_of (library_of program given objects) []) pid
+      false 0
+  first_placed pid =
+      record {
+        posted = get_or-replicate_same {X = ℕ} objects.rendez _ 0;
+        level =
+            let none = get_or-replicate_same {X = ℕ} objects.rendez
+            (meeting program given objects pid) 0 in
+            rw none (omega arith);
+        few =
+            let same = ap (λ (p : Place). p.meetings) fresh in
+            rw same (omega arith);
+        out = λ is. ap (λ (p : Place). p.state) fresh;
+      }
+    where
+      fresh : place_at program given objects
+          (runs.position_of (library_of program given objects) []) pid ≡ fresh_place 0
+      fresh = get_or-replicate_same {X = Place} objects.space.procs pid (fresh_place 0)
+
   -- So the opening is quiet.
   pub first_quiet : Quiet program given objects (first program) 0 objects.choices
       (runs.position_of (library_of program given objects) [])
@@ -146,6 +186,7 @@ module _ (program : Program) (given : Spot → Given) (objects : Objects)
             phase_is = get_or-replicate_same _ pid phase.Idle;
           };
           rests = first_rests pid;
+          placed = first_placed pid;
         };
         lined = λ sema low. subst (λ (s : SemaState). IsLined program given objects s
             (slice_index program.values sema) [] []) (sym (opening_is sema low))
@@ -156,6 +197,12 @@ module _ (program : Program) (given : Spot → Given) (objects : Objects)
               stages = length-replicate _ Idle ∙ sema_procs sema low;
               grants = length-replicate {A = ℕ} _ 0 ∙ sema_procs sema low;
             });
+        roomy =
+            let members = are.world.room.members in
+            let procs = are.procs_are in
+            rw (length-replicate {A = Place} objects.space.procs (fresh_place 0)) (omega arith);
+        tags = λ tag. ap line_of (sym (nobody_first objects.space.procs tag));
+        apart = none_wait objects.space.procs;
       }
 
 -- ---- a schedule

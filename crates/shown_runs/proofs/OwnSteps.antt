@@ -93,6 +93,7 @@ module _ (program : Program) (given : Spot → Given) (objects : Objects)
                 posted = drained.known.now.posted_is;
                 level = drained.known.now.level_is;
                 semas = ap (λ (o : ObjectStates). o.semas) drained.known.now.object_is;
+                space = ap (λ (o : ObjectStates). o.space) drained.known.now.object_is;
                 choices = ap (λ (o : ObjectStates). o.choices) drained.known.now.object_is
                     ∙ quiet.choices;
                 idle = idle_at drained.next line.next (record {
@@ -110,6 +111,7 @@ module _ (program : Program) (given : Spot → Given) (objects : Objects)
                 notes = λ other apart. at_else pid other no_notes q.notes apart;
                 values = refl;
                 lines = λ sema. refl;
+                partners = λ tag. refl;
               });
         }
 
@@ -174,6 +176,7 @@ module _ (program : Program) (given : Spot → Given) (objects : Objects)
                 posted = posted.known.now.posted_is;
                 level = posted.known.now.level_is;
                 semas = ap (λ (o : ObjectStates). o.semas) posted.known.now.object_is;
+                space = ap (λ (o : ObjectStates). o.space) posted.known.now.object_is;
                 choices = ap (λ (o : ObjectStates). o.choices) posted.known.now.object_is
                     ∙ quiet.choices;
                 idle = idle_at posted.next line.next (record {
@@ -192,6 +195,7 @@ module _ (program : Program) (given : Spot → Given) (objects : Objects)
                     at_else other third (joined (q.notes other) set) q.notes apart;
                 values = refl;
                 lines = λ sema. refl;
+                partners = λ tag. refl;
               });
         }
 
@@ -239,6 +243,7 @@ module _ (program : Program) (given : Spot → Given) (objects : Objects)
                 posted = chosen.known.now.posted_is;
                 level = chosen.known.now.level_is;
                 semas = ap (λ (o : ObjectStates). o.semas) chosen.known.now.object_is;
+                space = ap (λ (o : ObjectStates). o.space) chosen.known.now.object_is;
                 choices = ap (λ (o : ObjectStates). o.choices) chosen.known.now.object_is
                     ∙ ap later_choices choices_are;
                 idle = idle_at chosen.next (if way then line.next else line.other) (record {
@@ -260,5 +265,6 @@ module _ (program : Program) (given : Spot → Given) (objects : Objects)
                 notes = λ other apart. refl;
                 values = refl;
                 lines = λ sema. refl;
+                partners = λ tag. refl;
               });
         }

@@ -1,5 +1,5 @@
 -- Each schedule of the explorer's machine is played by the library's calls, step by step.
-use Rattle.std.proofs.Common.{◌≡◌, ◌⊎◌, inl, inr, ℕ, suc, ◌+◌, ◌<◌}
+use Rattle.std.proofs.Common.{Option, [], ℕ, ◌+◌, ◌<◌, ◌≡◌, ◌⊎◌, inl, inr, suc}
 use Rattle.std.proofs.Common.{Bool, true, false, Some, None, List}
 use Rattle.std.proofs.Common.{◌∷◌, length, nat_lt, refl, sym, ap, ◌∙◌, subst, arith}
 use Rattle.std.proofs.lemmas.Bool.Decides.{nat_tests}
@@ -7,6 +7,7 @@ use Rattle.sync_base.specs.declared.note.NoteSet.{NoteSet}
 use Rattle.sync_base.specs.NoteSet.{joined, no_notes}
 use Rattle.searches.specs.Schedule.{CanMove}
 use Rattle.semaphore.specs.declared.limits.TheConstants.{LAST_GRANT}
+use Rattle.tag_space.specs.GroupObject.{waiter_of}
 use Rattle.calls.specs.declared.call.Call.{Call}
 use Rattle.calls.specs.declared.call.Call.TheVariants as call
 use Rattle.calls.specs.declared.course.Course.TheVariants as course
@@ -21,17 +22,21 @@ use Rattle.calls.specs.Program.{IsProgram, Program, procs_of, sizes_of}
 use Rattle.call_machines.specs.Schedules as runs
 use Rattle.object_machines.specs.ObjectCalls.{Objects}
 use Rattle.explored_calls.specs.LibraryCalls.{AreItsObjects, Given, Spot, library_of}
+use Rattle.explored_calls.proofs.ExplorerSteps.{calls_to, meets_to}
 use Rattle.explored_calls.proofs.ExplorerSteps.{IsAtCall, acquires_to, begins_after}
 use Rattle.explored_calls.proofs.ExplorerSteps.{chooses_after, chooses_to, drains_to, fails_to}
 use Rattle.explored_calls.proofs.ExplorerSteps.{gone_with, posts_to, refuses_to, releases_to}
 use Rattle.explored_calls.proofs.ExplorerSteps.{tries_to, units_of, waits_after, waits_to}
 use Rattle.explored_calls.proofs.Queued.{Halt, Queued, Shows, gives_up, gone, has_notes_now, joins}
+use Rattle.explored_calls.proofs.Queued.{serves}
 use Rattle.explored_calls.proofs.QueuedSteps.{shows_gone, shows_left}
 use Rattle.explored_calls.proofs.Queued.Halt.{For}
 use Rattle.shown_runs.specs.ShownRuns.{AreShownCalls, IsShownCall, with_choices}
 use Rattle.shown_runs.proofs.CallSteps.{joins_line, line_can, turns_away}
 use Rattle.shown_runs.proofs.Following.{Begins, Chooses, Ends, Turns, which}
 use Rattle.shown_runs.proofs.OwnSteps.{chooses, posts_notes, takes_notes}
+use Rattle.shown_runs.proofs.MeetSteps.{meets_partner, turns_from_meeting, waits_for_partner}
+use Rattle.shown_runs.proofs.Quiet.{line_of}
 use Rattle.shown_runs.proofs.Quiet.{NoneStays, Quiet, StandsBy}
 use Rattle.shown_runs.proofs.QuietSteps.{ComesQuiet}
 use Rattle.shown_runs.proofs.ReleaseSteps.{releases}
@@ -244,6 +249,50 @@ module _ (program : Program) (given : Spot → Given) (objects : Objects)
         (are_with program objects choices are) q most (true ∷ ways) position quiet pid is_at.low
         line is_at.line_is is_at.waits made true ways refl))
 
+    no_line : (l : List ℕ) → nat_lt 0 (length l) ≡ false → l ≡ []
+    no_line [] is = refl
+    no_line (x ∷ l) is =
+        let low : nat_lt 0 (length (x ∷ l)) ≡ true = grind (arith, nat_tests) in
+        absurd cc
+
+    meets_so : (tag : ℕ) → line.call ≡ call.Rendezvous tag None
+        → StepsTo q (after_of program at pid)
+    meets_so tag made = by (nat_lt 0 (length (q.line (want.Partner tag)))) refl
+      where
+        by_waiter : (some : nat_lt 0 (length (q.line (want.Partner tag))) ≡ true)
+            (choices : List Bool) (most : ℕ) (ways : List Bool)
+            (position : runs.Position (library_of program given (with_choices objects choices)))
+            → Quiet program given (with_choices objects choices) q most ways position
+            → (found : Option ℕ) → waiter_of position.object.space tag ≡ found
+            → ComesQuiet program given (with_choices objects choices)
+            (are_with program objects choices are)
+            (gone (serves program q (want.Partner tag) 1) pid line.next) (suc most) ways
+        by_waiter some choices most ways position quiet None is =
+            let nobody : q.line (want.Partner tag) ≡ [] = quiet.tags tag ∙ ap line_of is in
+            let none : nat_lt 0 (length (q.line (want.Partner tag))) ≡ false =
+            ap (λ (l : List ℕ). nat_lt 0 (length l)) nobody in
+            absurd cc
+        by_waiter some choices most ways position quiet (Some waiter) is =
+            meets_partner program given (with_choices objects choices)
+            (are_with program objects choices are) q most ways position quiet shows.lines pid
+            is_at.low line is_at.waits is_at.line_is tag made waiter is
+
+        by : (some : Bool) → nat_lt 0 (length (q.line (want.Partner tag))) ≡ some
+            → StepsTo q (after_of program at pid)
+        by true some =
+            begins_so (gone (serves program q (want.Partner tag) 1) pid line.next)
+            (meets_to program q at shows pid line is_at tag made some)
+            (λ most ways fresh before. same_choices q _ most ways before (λ choices position quiet.
+            by_waiter some choices most ways position quiet
+            (waiter_of position.object.space tag) refl))
+        by false none =
+            begins_so (joins q pid (want.Partner tag))
+            (calls_to program q at shows pid line is_at tag made none)
+            (λ most ways fresh before. same_choices q _ most ways before (λ choices position quiet.
+            waits_for_partner program given (with_choices objects choices)
+            (are_with program objects choices are) q most ways position quiet pid is_at.low line
+            is_at.waits is_at.line_is tag made (no_line (q.line (want.Partner tag)) none) fresh))
+
     -- it reaches what must not be reached
     pub record Reaches : Type 0 where
       -- the call is the one that must not be made
@@ -262,6 +311,8 @@ module _ (program : Program) (given : Spot → Given) (objects : Objects)
         by (call.Try sema) is allowed = inl (tries_so sema is)
         by (call.Release sema count) is allowed = inl (releases_so sema count is)
         by (call.Note other set) is allowed = inl (posts_so other set is)
+        by (call.Rendezvous tag None) is allowed = inl (meets_so tag is)
+        by (call.Rendezvous tag (Some deadline)) is allowed = absurd allowed
         by call.Drain is allowed = inl (drains_so is)
         by call.Choose is allowed = inl (chooses_so is)
         by call.Never is allowed =
@@ -306,9 +357,9 @@ module _ (program : Program) (given : Spot → Given) (objects : Objects)
             (are_with program objects choices are) q most ways position quiet turns.pid
             turns.is_in.low sema asleep.low turns.line waits turns.is_in.line_is turns.noted
         by_want choices most ways position quiet (want.Partner tag) waits =
-            absurd (subst (λ (w : Halt). StandsBy program given
-            (with_choices objects choices) position turns.pid (q.place turns.pid) w) waits
-            (quiet.each turns.pid turns.is_in.low).stands)
+            turns_from_meeting program given (with_choices objects choices)
+            (are_with program objects choices are) q most ways position quiet turns.pid
+            turns.is_in.low tag turns.line waits turns.is_in.line_is turns.noted
 
     chooses_other : Chooses program q at shows mover → StepsTo q (after_of program at mover)
     chooses_other other =

@@ -1,7 +1,7 @@
 -- A position of the library's calls that is quiet: no wakeup is owed, and whoever waits is posted
 -- and asleep. And what stays of it while a process acts.
-use Rattle.std.proofs.Common.{◌≡◌, ◌≢◌, ◌⊎◌, inl, inr, ℕ, ◌<◌, ◌≤◌, Bool}
-use Rattle.std.proofs.Common.{if◌then◌else◌, false, Some, None, List, [], length}
+use Rattle.std.proofs.Common.{Bool, Option, ℕ, ◌<◌, ◌≡◌, ◌≢◌, ◌≤◌, ◌⊎◌, inl, inr}
+use Rattle.std.proofs.Common.{if◌then◌else◌, false, Some, None, List, [], ◌∷◌, length, true}
 use Rattle.std.proofs.Common.{refl, sym, ap, ◌∙◌, subst, arith}
 use Rattle.std.specs.Prelude.{slice_get, slice_index}
 use Rattle.sync_base.specs.declared.note.NoteSet.{NoteSet}
@@ -11,6 +11,11 @@ use Rattle.sleep_core.proofs.Frames.{same_or_not}
 use Rattle.semaphore.specs.declared.sema_object.Stage.{Stage}
 use Rattle.semaphore.specs.declared.sema_object.Stage.TheVariants.{Idle, Waiting}
 use Rattle.semaphore.specs.Units.{SemaState, grants_of, stage_of}
+use Rattle.tag_space.specs.declared.place.CallState.TheVariants.{Idle as OutOfSpace}
+use Rattle.tag_space.specs.declared.place.CallState.TheVariants.{Waiting as Waiting_in}
+use Rattle.tag_space.specs.declared.place.Place.{Place}
+use Rattle.tag_space.specs.GroupObject.{place_of, waiter_of}
+use Rattle.tag_space.specs.Members.{rendez_of_member}
 use Rattle.calls.specs.declared.call.Call.TheVariants as call
 use Rattle.calls.specs.declared.line.Line.{Line}
 use Rattle.calls.specs.declared.process.Want.TheVariants as want
@@ -22,13 +27,20 @@ use Rattle.call_machines.specs.WaitTables.WaitState.{Waits}
 use Rattle.sema_machines.specs.SemaRuns.CallState.{Takes}
 use Rattle.object_machines.specs.ObjectCalls.{ObjectCall, ObjectReply, ObjectRequest, ObjectStates}
 use Rattle.object_machines.specs.ObjectCalls.{Objects, sema_of, sema_state}
-use Rattle.object_machines.specs.ObjectCalls.ObjectCall.{AtSema}
-use Rattle.object_machines.specs.ObjectEnds.{AreApart, LeavesUnworn, sema_row}
+use Rattle.space_machines.specs.MeetMachine.MeetState.{Calls}
+use Rattle.object_machines.specs.ObjectCalls.ObjectCall.{AtSema, InSpace}
+use Rattle.object_machines.specs.ObjectEnds.{AreApart, LeavesUnworn, sema_row, space_row}
 use Rattle.explored_calls.specs.LibraryCalls.{AreItsObjects, Given, Spot, library_of}
 use Rattle.explored_calls.proofs.Queued.{Amid, Halt, Queued, is_for}
 use Rattle.explored_calls.proofs.Queued.Halt.{For, Free, Stays as IsAmid}
-use Rattle.shown_runs.specs.ShownRuns.{arrived, rendez_at, spot_of}
+use Rattle.explored_calls.proofs.SpaceFacts.{AtMostOne}
+use Rattle.shown_runs.specs.ShownRuns.{arrived, offered_at, rendez_at, spot_of}
 use Rattle.shown_runs.proofs.Acts.{IsSized, Reached, Stays, SuchSystem}
+
+-- the line of a tag with which this member waits, or nobody
+abbrev pub line_of : Option ℕ → List ℕ
+line_of None = []
+line_of (Some member) = member ∷ []
 
 -- the system of the library's calls, and the replies by which nothing is worn out
 abbrev pub such_calls : Program → (Spot → Given) → Objects
@@ -50,7 +62,34 @@ module _ (program : Program) (given : Spot → Given) (objects : Objects) where
   abbrev pub rendez : ℕ → ℕ → ℕ
   rendez sema pid = (rendez_at objects sema pid).0
 
+  -- the Rendez in which a process waits for a partner
+  abbrev pub meeting : ℕ → ℕ
+  meeting pid = (rendez_of_member objects.space pid).0
+
+  -- what the space keeps of a process, as the position has it
+  abbrev pub place_at : Position (library_of program given objects) → ℕ → Place
+  place_at at pid = place_of at.object.space pid
+
   -- ---- one process
+
+  -- whether it waits for a partner
+  abbrev pub is_meeting : Halt → Bool
+  is_meeting Free = false
+  is_meeting (For (want.Unit sema)) = false
+  is_meeting (For (want.Partner tag)) = true
+  is_meeting (IsAmid amid) = false
+
+  -- what the world and the space have of a process that waits for a partner, or does not
+  pub record Placed (at : Position (library_of program given objects)) (pid : ℕ) (meets : Bool)
+      (most : ℕ) : Type 0 where
+    -- it is posted there if it waits for a partner
+    pub posted : posted_of at.world (meeting pid) ≡ (if meets then posted_as pid else nobody)
+    -- no level is above the number of its meetings
+    pub level : level_of at.world (meeting pid) ≤ (place_at at pid).meetings
+    -- it has no more meetings than this
+    pub few : (place_at at pid).meetings ≤ most
+    -- and is out of the space if it does not wait there
+    pub out : meets ≡ false → (place_at at pid).state ≡ OutOfSpace
 
   -- what the world and the semaphores have of a process that waits for this, and stands so at its
   -- semaphore
@@ -99,11 +138,34 @@ module _ (program : Program) (given : Spot → Given) (objects : Objects) where
     pub phase_is : phase_of at.world pid
         ≡ phase.Asleep (rendez_at objects sema pid) (grants_of (sema_at at sema) pid)
 
-  -- By what it waits for: nothing, or a unit. Nobody is amid a call of a pipe.
+  -- or there, with the number of its meetings
+  pub record IsMeeting (at : Position (library_of program given objects)) (pid place tag : ℕ)
+      : Type 0 where
+    -- the line of the place where it waits
+    pub line : Line
+    -- the program has that line there
+    pub line_is : slice_get program.lines place ≡ Some line
+    -- its call is a rendezvous without a deadline
+    pub made : line.call ≡ call.Rendezvous tag None
+    -- its machine waits with the number of its meetings
+    pub state_is : state_of (library_of program given objects) at pid
+        ≡ In (spot_of pid place) (InSpace (record {
+          member = pid;
+          offered = offered_at given pid place tag;
+          at = Calls (Waits (place_at at pid).meetings);
+        }))
+    -- it is asleep in the Rendez of its member
+    pub phase_is : phase_of at.world pid
+        ≡ phase.Asleep (rendez_of_member objects.space pid) (place_at at pid).meetings
+    -- it waits in the space with its tag
+    pub waiting : (place_at at pid).state
+        ≡ Waiting_in (record { 0 = tag }) (given (spot_of pid place)).value
+
+  -- By what it waits for: nothing, a unit, or a partner. Nobody is amid a call of a pipe.
   abbrev pub StandsBy : Position (library_of program given objects) → ℕ → ℕ → Halt → Type 0
   StandsBy at pid place Free = IsIdle at pid place
   StandsBy at pid place (For (want.Unit sema)) = IsAsleep at pid place sema
-  StandsBy at pid place (For (want.Partner tag)) = ⊥
+  StandsBy at pid place (For (want.Partner tag)) = IsMeeting at pid place tag
   StandsBy at pid place (IsAmid amid) = ⊥
 
   -- how a process stands, by its place, its wait and its notes
@@ -113,6 +175,8 @@ module _ (program : Program) (given : Spot → Given) (objects : Objects) where
     pub stands : StandsBy at pid place waits
     -- the world and its seats have it so
     pub rests : Rests at pid waits Waiting set most
+    -- and so has the space
+    pub placed : Placed at pid (is_meeting waits) most
 
   -- ---- one semaphore
 
@@ -151,6 +215,12 @@ module _ (program : Program) (given : Spot → Given) (objects : Objects) where
     -- each semaphore is as the lines say, and names nobody
     pub lined : (sema : ℕ) → sema < length program.values
         → IsLined (sema_at at sema) (slice_index q.values sema) (q.line (want.Unit sema)) []
+    -- the space has a member for each process
+    pub roomy : procs_of program ≤ length at.object.space
+    -- the line of a tag is who waits with it
+    pub tags : (tag : ℕ) → q.line (want.Partner tag) ≡ line_of (waiter_of at.object.space tag)
+    -- of each tag one member waits at most
+    pub apart : AtMostOne at.object.space
 
   -- so nobody is amid a call of a pipe
   pub none_stays : (q : Queued) (most : ℕ) (ways : List Bool)
@@ -184,6 +254,47 @@ module _ (program : Program) (given : Spot → Given) (objects : Objects) where
         grants = two.grants ∙ one.grants;
       }
 
+  -- what a process has in the space
+  pub record SpaceFrame (at next : Position (library_of program given objects)) (pid : ℕ) : Type 0
+    where
+      -- the same process is posted there
+      pub posted : posted_of next.world (meeting pid) ≡ posted_of at.world (meeting pid)
+      -- the level there is the same
+      pub level : level_of next.world (meeting pid) ≡ level_of at.world (meeting pid)
+      -- the space keeps the same of it
+      pub place : place_at next pid ≡ place_at at pid
+
+  -- then it is placed as before
+  pub placed_still : (at next : Position (library_of program given objects)) (pid : ℕ)
+      (meets : Bool) (most more : ℕ) → Placed at pid meets most → SpaceFrame at next pid
+      → most ≤ more → Placed next pid meets more
+  placed_still at next pid meets most more placed frame grows =
+      record {
+        posted = frame.posted ∙ placed.posted;
+        level =
+            let level = frame.level in
+            let place = ap (λ (p : Place). p.meetings) frame.place in
+            let under = placed.level in
+            rw (level, place) under;
+        few =
+            let place = ap (λ (p : Place). p.meetings) frame.place in
+            let few = placed.few in
+            rw place (omega arith);
+        out = λ is. ap (λ (p : Place). p.state) frame.place ∙ placed.out is;
+      }
+
+  -- where no word changes, and the space does not
+  pub space_words : (at next : Position (library_of program given objects)) (pid : ℕ)
+      → ((k : ℕ) → posted_of next.world k ≡ posted_of at.world k)
+      → ((k : ℕ) → level_of next.world k ≡ level_of at.world k)
+      → next.object.space ≡ at.object.space → SpaceFrame at next pid
+  space_words at next pid posted level same =
+      record {
+        posted = posted (meeting pid);
+        level = level (meeting pid);
+        place = ap (λ (places : List Place). place_of places pid) same;
+      }
+
   -- one semaphore has become this, and the others stay
   pub record Changed (at next : Position (library_of program given objects)) (sema : ℕ)
       (t : SemaState) : Type 0 where
@@ -195,6 +306,8 @@ module _ (program : Program) (given : Spot → Given) (objects : Objects) where
     pub elsewhere : (other : ℕ) → other ≢ sema → sema_at next other ≡ sema_at at other
     -- the choices to come stay too
     pub choices : next.object.choices ≡ at.object.choices
+    -- and so does the space
+    pub space : next.object.space ≡ at.object.space
 
   -- what a semaphore has of a seat stays
   pub record SameSeat (s t : SemaState) (pid : ℕ) : Type 0 where
@@ -212,6 +325,7 @@ module _ (program : Program) (given : Spot → Given) (objects : Objects) where
         here = ap (λ (o : ObjectStates). sema_state objects o sema) same;
         elsewhere = λ other apart. ap (λ (o : ObjectStates). sema_state objects o other) same;
         choices = ap (λ (o : ObjectStates). o.choices) same;
+        space = ap (λ (o : ObjectStates). o.space) same;
       }
 
   -- ---- a process of which little changes
@@ -324,13 +438,15 @@ module _ (program : Program) (given : Spot → Given) (objects : Objects) where
       → phase_of next.world pid ≡ phase_of at.world pid
       → flags_of next.world pid ≡ record { wake = false; notes = held }
       → ((sema : ℕ) → sema < length program.values → Frame at next pid sema)
-      → most ≤ more
+      → SpaceFrame at next pid → most ≤ more
       → Stands next pid place waits held more
-  stands_still at next pid place waits set held most more old state stage flags frame grows =
+  stands_still at next pid place waits set held most more old state stage flags frame space
+      grows =
       record {
         stands = by waits old.stands;
         rests = rests_still at next pid waits Waiting set held most more old.rests frame flags
             grows;
+        placed = placed_still at next pid (is_meeting waits) most more old.placed space grows;
       }
     where
       by : (has : Halt) → StandsBy at pid place has → StandsBy next pid place has
@@ -349,8 +465,27 @@ module _ (program : Program) (given : Spot → Given) (objects : Objects) where
                 ∙ ap (phase.Asleep (rendez_at objects sema pid))
                 (sym (frame sema asleep.low).grants));
           }
-      by (For (want.Partner tag)) none = absurd none
+      by (For (want.Partner tag)) meets =
+          record {
+            line = meets.line;
+            line_is = meets.line_is;
+            made = meets.made;
+            state_is = state ∙ (meets.state_is
+                ∙ ap (λ (p : Place). In (spot_of pid place) (InSpace (record {
+                  member = pid;
+                  offered = offered_at given pid place tag;
+                  at = Calls (Waits p.meetings);
+                }))) (sym space.place));
+            phase_is = stage ∙ (meets.phase_is
+                ∙ ap (λ (p : Place). phase.Asleep (rendez_of_member objects.space pid) p.meetings)
+                (sym space.place));
+            waiting = ap (λ (p : Place). p.state) space.place ∙ meets.waiting;
+          }
       by (IsAmid amid) none = absurd none
+
+  -- two members that differ have two Rendez
+  pub meetings_apart : (pid other : ℕ) → pid ≢ other → meeting pid ≢ meeting other
+  meetings_apart pid other apart same = apart (omega arith)
 
   -- ---- no two seats have a Rendez in common
 
@@ -395,6 +530,55 @@ module _ (program : Program) (given : Spot → Given) (objects : Objects) where
         by (inr apart) =
             by_rows (are.world.semas_apart sema other (rw are.semas_are low)
             (rw are.semas_are low_other) apart)
+
+    -- the Rendez of members are those of no seats
+    pub meeting_apart : (sema pid third : ℕ) → sema < length program.values
+        → pid < procs_of program → third < procs_of program → meeting third ≢ rendez sema pid
+    meeting_apart sema pid third low below below_third =
+        by (are.world.space_apart sema (rw are.semas_are low))
+      where
+        fits : third < objects.space.procs
+        fits =
+            let members = are.world.room.members in
+            let procs = are.procs_are in
+            omega arith
+
+        by : AreApart (sema_row objects sema) (space_row objects) → meeting third ≢ rendez sema pid
+        by (inl before) =
+            let one = seat_low sema pid low below in
+            λ same. omega arith
+        by (inr behind) =
+            let two = fits in
+            λ same. omega arith
+
+    -- what a process has at a semaphore stays, if acts are in the space
+    pub frame_meeting : (at next : Position (library_of program given objects)) (seat pid sema : ℕ)
+        → ((k : ℕ) → k ≢ meeting seat → posted_of next.world k ≡ posted_of at.world k)
+        → ((k : ℕ) → k ≢ meeting seat → level_of next.world k ≡ level_of at.world k)
+        → seat < procs_of program → pid < procs_of program → sema < length program.values
+        → sema_at next sema ≡ sema_at at sema → Frame at next pid sema
+    frame_meeting at next seat pid sema posted levels low below there same =
+        record {
+          posted = posted (rendez sema pid) far;
+          level = levels (rendez sema pid) far;
+          stage = ap (λ (s : SemaState). stage_of s pid) same;
+          grants = ap (λ (s : SemaState). grants_of s pid) same;
+        }
+      where
+        far : rendez sema pid ≢ meeting seat
+        far is = meeting_apart sema pid seat there below low (sym is)
+
+    -- what a process has in the space stays, if acts touch another Rendez
+    pub space_by : (at next : Position (library_of program given objects)) (r pid : ℕ)
+        → ((k : ℕ) → k ≢ r → posted_of next.world k ≡ posted_of at.world k)
+        → ((k : ℕ) → k ≢ r → level_of next.world k ≡ level_of at.world k)
+        → meeting pid ≢ r → place_at next pid ≡ place_at at pid → SpaceFrame at next pid
+    space_by at next r pid posted levels far place =
+        record {
+          posted = posted (meeting pid) far;
+          level = levels (meeting pid) far;
+          place = place;
+        }
 
     -- what a process has at a semaphore stays, if acts are of another seat
     pub frame_by : (at next : Position (library_of program given objects))

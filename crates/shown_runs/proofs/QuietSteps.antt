@@ -1,23 +1,29 @@
 -- A step that leads from a quiet position to a quiet one: a process acts at one semaphore, or at
 -- none.
-use Rattle.std.proofs.Common.{◌≡◌, ◌≢◌, ◌⊎◌, inl, inr, ℕ, suc, ◌<◌, Bool}
+use Rattle.std.proofs.Common.{◌≤◌, ◌≡◌, ◌≢◌, ◌⊎◌, inl, inr, ℕ, suc, ◌<◌, Bool}
 use Rattle.std.proofs.Common.{false, List, [], length}
 use Rattle.std.proofs.Common.{sym, ap, ◌∙◌, subst, arith}
 use Rattle.std.specs.Prelude.{slice_index}
 use Rattle.sync_base.specs.declared.note.NoteSet.{NoteSet}
-use Rattle.sleep_core.specs.State.{flags_of, level_of, posted_of}
+use Rattle.sleep_core.specs.State.{flags_of, level_of, phase_of, posted_of}
 use Rattle.sleep_core.proofs.Frames.{same_or_not}
 use Rattle.semaphore.specs.declared.sema_object.Stage.TheVariants.{Waiting}
 use Rattle.semaphore.specs.Units.{SemaState, grants_of, stage_of}
+use Rattle.tag_space.specs.declared.place.Place.{Place}
+use Rattle.tag_space.specs.GroupObject.{place_of, waiter_of}
 use Rattle.calls.specs.declared.process.Want.TheVariants as want
 use Rattle.calls.specs.Program.{Program, procs_of}
-use Rattle.call_machines.specs.Schedules.{Position}
+use Rattle.call_machines.specs.Schedules.{Position, state_of}
 use Rattle.object_machines.specs.ObjectCalls.{Objects, sema_state}
 use Rattle.explored_calls.specs.LibraryCalls.{AreItsObjects, Given, Spot, library_of}
 use Rattle.explored_calls.proofs.Queued.{Halt, Queued}
 use Rattle.explored_calls.proofs.Queued.Halt.{Free}
 use Rattle.shown_runs.proofs.Acts.{IsSized, Reached, Stays}
+use Rattle.explored_calls.proofs.SpaceFacts.{AtMostOne}
 use Rattle.shown_runs.proofs.Quiet.{such_calls}
+use Rattle.shown_runs.proofs.Quiet.{Placed, SpaceFrame, is_meeting, line_of, meeting, meeting_apart}
+use Rattle.shown_runs.proofs.Quiet.{frame_meeting, meetings_apart, placed_still, space_by}
+use Rattle.shown_runs.proofs.Quiet.{space_words}
 use Rattle.shown_runs.proofs.Quiet.{Changed, Frame, IsIdle, IsLined, Quiet, SameSeat, Stands}
 use Rattle.shown_runs.proofs.Quiet.{Rests, frame_far, rendez, rests_still, sema_at, stands_still}
 
@@ -87,6 +93,18 @@ module _ (program : Program) (given : Spot → Given) (objects : Objects)
     -- the lines of the others stay too
     pub lines : (other : ℕ) → other ≢ sema
         → now.line (want.Unit other) ≡ q.line (want.Unit other)
+    -- and those who wait for partners stay
+    pub partners : (tag : ℕ) → now.line (want.Partner tag) ≡ q.line (want.Partner tag)
+
+  -- where the space stays the lines of tags are right still
+  pub tags_stay : (q now : Queued) (at next : Position (library_of program given objects))
+      → next.object.space ≡ at.object.space
+      → ((tag : ℕ) → now.line (want.Partner tag) ≡ q.line (want.Partner tag))
+      → ((tag : ℕ) → q.line (want.Partner tag) ≡ line_of (waiter_of at.object.space tag))
+      → (tag : ℕ) → now.line (want.Partner tag) ≡ line_of (waiter_of next.object.space tag)
+  tags_stay q now at next same partners tags tag =
+      partners tag
+      ∙ (tags tag ∙ ap (λ (places : List Place). line_of (waiter_of places tag)) (sym same))
 
   -- so a quiet position leads to a quiet one
   pub own_step : (q now : Queued) (most : ℕ) (ways : List Bool)
@@ -103,6 +121,10 @@ module _ (program : Program) (given : Spot → Given) (objects : Objects)
         choices = step.changed.choices ∙ quiet.choices;
         each = λ other below. each_by other below (same_or_not other pid);
         lined = λ other below. lined_by other below (same_or_not other sema);
+        roomy = subst (λ (places : List Place). procs_of program ≤ length places)
+            (sym step.changed.space) quiet.roomy;
+        tags = tags_stay q now at next step.changed.space step.partners quiet.tags;
+        apart = subst AtMostOne (sym step.changed.space) quiet.apart;
       }
     where
       each_by : (other : ℕ) → other < procs_of program → (other ≡ pid) ⊎ (other ≢ pid)
@@ -120,6 +142,10 @@ module _ (program : Program) (given : Spot → Given) (objects : Objects)
           (λ third less. frame_far program given objects are at next pid pid sema t other third
           step.stays step.changed there less low below (inr apart)
           (λ same. step.seats other below apart))
+          (space_by program given objects are at next (rendez program given objects sema pid) other
+          step.stays.posted step.stays.levels
+          (meeting_apart program given objects are sema pid other there low below)
+          (ap (λ (places : List Place). place_of places other) step.changed.space))
           (omega arith))
 
       lined_by : (other : ℕ) → other < length program.values → (other ≡ sema) ⊎ (other ≢ sema)
@@ -157,6 +183,8 @@ module _ (program : Program) (given : Spot → Given) (objects : Objects)
     pub level : level_of next.world r ≡ level_of at.world r
     -- the semaphores are as they were
     pub semas : next.object.semas ≡ at.object.semas
+    -- and so is the space
+    pub space : next.object.space ≡ at.object.space
     -- these are the choices that are left
     pub choices : next.object.choices ≡ later
     -- the process has gone on to its next place
@@ -177,6 +205,8 @@ module _ (program : Program) (given : Spot → Given) (objects : Objects)
     pub values : now.values ≡ q.values
     -- the lines are those of before
     pub lines : (sema : ℕ) → now.line (want.Unit sema) ≡ q.line (want.Unit sema)
+    -- and those who wait for partners stay
+    pub partners : (tag : ℕ) → now.line (want.Partner tag) ≡ q.line (want.Partner tag)
 
   -- so a quiet position leads to a quiet one
   pub still_step : (q now : Queued) (most : ℕ) (ways later : List Bool)
@@ -200,6 +230,10 @@ module _ (program : Program) (given : Spot → Given) (objects : Objects)
             (subst (λ (l : List ℕ). IsLined program given objects
             (sema_at program given objects at sema) (slice_index q.values sema) l [])
             (sym (step.lines sema)) (quiet.lined sema below)));
+        roomy = subst (λ (places : List Place). procs_of program ≤ length places)
+            (sym step.space) quiet.roomy;
+        tags = tags_stay q now at next step.space step.partners quiet.tags;
+        apart = subst AtMostOne (sym step.space) quiet.apart;
       }
     where
       sema_same : (sema : ℕ)
@@ -226,6 +260,11 @@ module _ (program : Program) (given : Spot → Given) (objects : Objects)
             stage = ap (λ (s : SemaState). stage_of s other) (sema_same sema);
             grants = ap (λ (s : SemaState). grants_of s other) (sema_same sema);
           }
+
+      space_frame : (other : ℕ) → SpaceFrame program given objects at next other
+      space_frame other =
+          space_words program given objects at next other (λ k. posted_by k (same_or_not k r))
+          (λ k. level_by k (same_or_not k r)) step.space
 
       flags_by : (other : ℕ) → other < procs_of program → (other ≡ noted) ⊎ (other ≢ noted)
           → flags_of next.world other ≡ record { wake = false; notes = now.notes other }
@@ -256,6 +295,10 @@ module _ (program : Program) (given : Spot → Given) (objects : Objects)
                 (quiet.each other below).rests)
                 (λ sema less. frame other sema)
                 (flags_by other below (same_or_not other noted)) (omega arith);
+            placed = placed_still program given objects at next other false most (suc most)
+                (subst (λ (w : Halt). Placed program given objects at other
+                (is_meeting program given objects w) most) waits_old
+                (quiet.each other below).placed) (space_frame other) (omega arith);
           })
       each_by other below (inr apart) =
           subst (λ (n : ℕ). Stands program given objects next other n (now.waits other)
@@ -266,4 +309,117 @@ module _ (program : Program) (given : Spot → Given) (objects : Objects)
           (q.notes other) (now.notes other) most (suc most) (quiet.each other below)
           (step.stays.states other apart) (step.stays.phases other apart)
           (flags_by other below (same_or_not other noted))
-          (λ sema less. frame other sema) (omega arith)))
+          (λ sema less. frame other sema) (space_frame other) (omega arith)))
+
+  -- ---- in the space
+
+  -- acts of a process in the space, with the member of this seat, which may be its own; they leave
+  -- all others as they were
+  pub record MeetStep (q now : Queued) (most : ℕ)
+      (at next : Position (library_of program given objects)) (pid seat : ℕ) (places : List Place)
+      : Type 0 where
+    -- some schedule comes to the next position
+    pub reached : Reached (such_calls program given objects) next
+    -- it has a place for each
+    pub sized : IsSized (such_calls program given objects) next
+    -- nobody else has gone on in its machine
+    pub states : (other : ℕ) → other ≢ pid → other ≢ seat
+        → state_of (library_of program given objects) next other
+        ≡ state_of (library_of program given objects) at other
+    -- or in a sleep or a wakeup
+    pub phases : (other : ℕ) → other ≢ pid → other ≢ seat
+        → phase_of next.world other ≡ phase_of at.world other
+    -- nobody else has other flags
+    pub flags : (other : ℕ) → other ≢ seat → flags_of next.world other ≡ flags_of at.world other
+    -- in no other Rendez is another posted
+    pub posted : (k : ℕ) → k ≢ meeting program given objects seat
+        → posted_of next.world k ≡ posted_of at.world k
+    -- no other Rendez has another level
+    pub levels : (k : ℕ) → k ≢ meeting program given objects seat
+        → level_of next.world k ≡ level_of at.world k
+    -- the semaphores are as they were
+    pub semas : next.object.semas ≡ at.object.semas
+    -- the choices to come stay too
+    pub choices : next.object.choices ≡ at.object.choices
+    -- the space has become this
+    pub space : next.object.space ≡ places
+    -- with as many members as before
+    pub many : length places ≡ length at.object.space
+    -- it keeps the same of each other member
+    pub elsewhere : (other : ℕ) → other ≢ seat
+        → place_of places other ≡ place_of at.object.space other
+    -- the process itself stands as the lines say
+    pub own : Stands program given objects next pid (now.place pid) (now.waits pid) (now.notes pid)
+        (suc most)
+    -- and so does the one with that seat
+    pub own_seat : Stands program given objects next seat (now.place seat) (now.waits seat)
+        (now.notes seat) (suc most)
+    -- the lines say the same of all others
+    pub others : (other : ℕ) → other ≢ pid → other ≢ seat → SameFor q now other
+    -- they have the units of before
+    pub values : now.values ≡ q.values
+    -- the lines of the semaphores stay
+    pub lines : (sema : ℕ) → now.line (want.Unit sema) ≡ q.line (want.Unit sema)
+    -- the line of a tag is who waits with it
+    pub tags : (tag : ℕ) → now.line (want.Partner tag) ≡ line_of (waiter_of places tag)
+    -- of each tag one member waits at most
+    pub apart : AtMostOne places
+
+  -- so a quiet position leads to a quiet one
+  pub meet_step : (q now : Queued) (most : ℕ) (ways : List Bool)
+      (at next : Position (library_of program given objects)) (pid seat : ℕ) (places : List Place)
+      → seat < procs_of program
+      → Quiet program given objects q most ways at → MeetStep q now most at next pid seat places
+      → Quiet program given objects now (suc most) ways next
+  meet_step q now most ways at next pid seat places low quiet step =
+      record {
+        reached = step.reached;
+        sized = step.sized;
+        many = ap length step.semas ∙ quiet.many;
+        counted = ap length step.values ∙ quiet.counted;
+        choices = step.choices ∙ quiet.choices;
+        each = λ other below. each_by other below (same_or_not other pid) (same_or_not other seat);
+        lined = λ sema below.
+            subst (λ (s : SemaState). IsLined program given objects s
+            (slice_index now.values sema) (now.line (want.Unit sema)) []) (sym (sema_same sema))
+            (subst (λ (values : List ℕ). IsLined program given objects
+            (sema_at program given objects at sema) (slice_index values sema)
+            (now.line (want.Unit sema)) []) (sym step.values)
+            (subst (λ (l : List ℕ). IsLined program given objects
+            (sema_at program given objects at sema) (slice_index q.values sema) l [])
+            (sym (step.lines sema)) (quiet.lined sema below)));
+        roomy = subst (λ (n : ℕ). procs_of program ≤ n)
+            (sym (ap length step.space ∙ step.many)) quiet.roomy;
+        tags = λ tag. step.tags tag
+            ∙ ap (λ (l : List Place). line_of (waiter_of l tag)) (sym step.space);
+        apart = subst AtMostOne (sym step.space) step.apart;
+      }
+    where
+      sema_same : (sema : ℕ)
+          → sema_at program given objects next sema ≡ sema_at program given objects at sema
+      sema_same sema =
+          ap (λ (l : List SemaState). sema_state objects (record at.object { semas = l }) sema)
+          step.semas
+
+      each_by : (other : ℕ) → other < procs_of program → (other ≡ pid) ⊎ (other ≢ pid)
+          → (other ≡ seat) ⊎ (other ≢ seat)
+          → Stands program given objects next other (now.place other) (now.waits other)
+          (now.notes other) (suc most)
+      each_by other below (inl same) test =
+          subst (λ (n : ℕ). Stands program given objects next n (now.place n) (now.waits n)
+          (now.notes n) (suc most)) (sym same) step.own
+      each_by other below (inr apart) (inl same) =
+          subst (λ (n : ℕ). Stands program given objects next n (now.place n) (now.waits n)
+          (now.notes n) (suc most)) (sym same) step.own_seat
+      each_by other below (inr apart) (inr far) =
+          same_stands next q now other (suc most) (step.others other apart far)
+          (stands_still program given objects at next other (q.place other) (q.waits other)
+          (q.notes other) (q.notes other) most (suc most) (quiet.each other below)
+          (step.states other apart far) (step.phases other apart far)
+          (step.flags other far ∙ (quiet.each other below).rests.flags_is)
+          (λ sema less. frame_meeting program given objects are at next seat other sema
+          step.posted step.levels low below less (sema_same sema))
+          (space_by program given objects are at next (meeting program given objects seat) other
+          step.posted step.levels (meetings_apart program given objects other seat far)
+          (ap (λ (l : List Place). place_of l other) step.space ∙ step.elsewhere other far))
+          (omega arith))

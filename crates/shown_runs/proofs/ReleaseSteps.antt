@@ -12,6 +12,7 @@ use Rattle.semaphore.specs.declared.sema_object.Stage.TheVariants.{Granted, Wait
 use Rattle.semaphore.specs.Units.{SemaState, grants_of, stage_of}
 use Rattle.semaphore.specs.WaitQueue.{AreSeats, stands_in}
 use Rattle.calls.specs.declared.call.Call.TheVariants as call
+use Rattle.tag_space.specs.declared.place.Place.{Place}
 use Rattle.calls.specs.declared.ending.Ending.TheVariants as ending
 use Rattle.calls.specs.declared.line.Line.{Line}
 use Rattle.calls.specs.declared.process.Want.{Want}
@@ -42,19 +43,21 @@ use Rattle.shown_runs.specs.ShownRuns.{spot_of}
 use Rattle.shown_runs.proofs.Acts.{Leads, asks}
 use Rattle.shown_runs.proofs.CallSteps.{apart_numbers, at_call, at_else, at_self, begins}
 use Rattle.shown_runs.proofs.CallSteps.{changed_after, every, frame_words, goes_by_request}
-use Rattle.shown_runs.proofs.CallSteps.{in_library, known_idle, leads_to, rests_of}
+use Rattle.shown_runs.proofs.CallSteps.{in_library, known_idle, leads_to, placed_of, rests_of}
+use Rattle.explored_calls.proofs.SpaceFacts.{AtMostOne}
 use Rattle.shown_runs.proofs.Quiet.{such_calls}
+use Rattle.shown_runs.proofs.Quiet.{SpaceFrame, placed_still, space_words}
 use Rattle.shown_runs.proofs.Quiet.{Changed, Frame, IsAsleep, IsLined, Quiet, Rests, SameSeat}
 use Rattle.shown_runs.proofs.Quiet.{Stands}
 use Rattle.shown_runs.proofs.Quiet.{StandsBy, rendez, rests_own, rests_still, sema_at, stands_still}
-use Rattle.shown_runs.proofs.QuietSteps.{ComesQuiet}
+use Rattle.shown_runs.proofs.QuietSteps.{ComesQuiet, tags_stay}
 use Rattle.shown_runs.proofs.ReleaseFacts.{Served, ServesNobody, ServesSome, named_one, seats_taken}
 use Rattle.shown_runs.proofs.ReleaseFacts.{served_all, serves_nobody, serves_some}
 use Rattle.shown_runs.proofs.Serving.{IsServed, Serving}
 use Rattle.shown_runs.proofs.ServingSteps.{wakes_all, wakes_one}
 
 -- who is in a line waits for it
-waits_for_it : (what : Want) (has : Halt) → is_for what has ≡ true → has ≡ For what
+pub waits_for_it : (what : Want) (has : Halt) → is_for what has ≡ true → has ≡ For what
 waits_for_it what Free is = cc
 waits_for_it what (For other) is = ap For (sym (same_want what other is))
 waits_for_it what (Stays amid) is = cc
@@ -189,6 +192,7 @@ module _ (program : Program) (given : Spot → Given) (objects : Objects)
         counted = length-set q.values sema _;
         values = values_beside;
         lines = lines_beside;
+        partners = λ tag. refl;
       })
     where
       so : ServesNobody (sema_at program given objects at sema) count
@@ -286,6 +290,9 @@ module _ (program : Program) (given : Spot → Given) (objects : Objects)
         frame_words program given objects at led.next sema pid other _ words levels changed
         (λ same. absurd (apart same))
 
+    space_frame : (pid : ℕ) → SpaceFrame program given objects at led.next pid
+    space_frame pid = space_words program given objects at led.next pid words levels changed.space
+
     -- one that is not served stands as before
     stands_as : (pid : ℕ) → pid < procs_of program → pid ≢ by → stands_in (x ∷ names) pid ≡ false
         → Stands program given objects led.next pid (all_served.place pid) (all_served.waits pid)
@@ -300,7 +307,7 @@ module _ (program : Program) (given : Spot → Given) (objects : Objects)
         (stands_still program given objects at led.next pid (q.place pid) (q.waits pid)
         (q.notes pid) (q.notes pid) most (suc most) old (led.stays.states pid apart)
         (led.stays.phases pid apart) (led.stays.flags pid apart ∙ old.rests.flags_is)
-        (λ other below. frame pid less out other) (omega arith)))
+        (λ other below. frame pid less out other) (space_frame pid) (omega arith)))
 
     -- one that is served is still asleep
     module _ (pid : ℕ) (less : pid < procs_of program)
@@ -381,6 +388,9 @@ module _ (program : Program) (given : Spot → Given) (objects : Objects)
                       omega arith;
                 })
                 (led.stays.flags pid apart_from ∙ rests.flags_is) (omega arith);
+            placed = placed_still program given objects at led.next pid false most (suc most)
+                (placed_of program given objects are q most ways at quiet pid less _ waits)
+                (space_frame pid) (omega arith);
           }
 
     serving : Serving program given objects all_served sema by (x ∷ names) names (suc most) ways
@@ -401,6 +411,9 @@ module _ (program : Program) (given : Spot → Given) (objects : Objects)
               (q.notes by) most (suc most)
               (rests_of program given objects are q most ways at quiet by low Free none)
               (λ other below. frame by low by_out other) led.known.now.flags_is (omega arith);
+          placed = placed_still program given objects at led.next by false most (suc most)
+              (placed_of program given objects are q most ways at quiet by low Free none)
+              (space_frame by) (omega arith);
           out = sym (ap (λ (l : List ℕ). stands_in l by) some) ∙ by_out;
           seats = subst (AreSeats (procs_of program)) some
               (seats_taken (procs_of program) (units_of q sema + count) (q.line (want.Unit sema))
@@ -417,6 +430,11 @@ module _ (program : Program) (given : Spot → Given) (objects : Objects)
               (subst (λ (l : List ℕ). IsLined program given objects
               (sema_at program given objects at other) (slice_index q.values other) l [])
               (sym (lines_beside other apart)) (quiet.lined other below)));
+          roomy = subst (λ (places : List Place). procs_of program ≤ length places)
+              (sym changed.space) quiet.roomy;
+          tags = tags_stay program given objects are q all_served at led.next changed.space
+              (λ tag. refl) quiet.tags;
+          apart = subst AtMostOne (sym changed.space) quiet.apart;
         }
 
     waking : state_of (library_of program given objects) led.next by

@@ -1,6 +1,6 @@
 -- A release on its way: it has granted units to some, who are still asleep, and wakes one after the
 -- other. Whoever is woken goes on with its unit before the next one is named.
-use Rattle.std.proofs.Common.{◌≡◌, ◌≢◌, ◌⊎◌, inl, inr, ℕ, ◌<◌, Bool}
+use Rattle.std.proofs.Common.{◌≤◌, ◌≡◌, ◌≢◌, ◌⊎◌, inl, inr, ℕ, ◌<◌, Bool}
 use Rattle.std.proofs.Common.{true, false, Some, List, []}
 use Rattle.std.proofs.Common.{length, refl, sym, ap, ◌∙◌}
 use Rattle.std.specs.Prelude.{slice_get, slice_index, slice_set}
@@ -17,6 +17,7 @@ use Rattle.semaphore.specs.Units.{SemaState, stage_of}
 use Rattle.semaphore.specs.WaitQueue.{AreSeats, stands_in, without}
 use Rattle.calls.specs.declared.ending.Ending.TheVariants as ending
 use Rattle.calls.specs.declared.line.Line.{Line}
+use Rattle.tag_space.specs.GroupObject.{waiter_of}
 use Rattle.calls.specs.declared.process.Want.TheVariants as want
 use Rattle.calls.specs.Program.{Program, procs_of}
 use Rattle.call_machines.specs.Machine.{Outcome}
@@ -42,7 +43,9 @@ use Rattle.shown_runs.specs.ShownRuns.{arrived, rendez_at, spot_of}
 use Rattle.shown_runs.proofs.Acts.{Here, IsSized, Known, Leads, Reached, asks, goes_on_noted}
 use Rattle.shown_runs.proofs.Acts.{goes_on_well, led_so, on, returns}
 use Rattle.shown_runs.proofs.CallSteps.{in_library, leads_to, row_low}
+use Rattle.explored_calls.proofs.SpaceFacts.{AtMostOne}
 use Rattle.shown_runs.proofs.Quiet.{such_calls}
+use Rattle.shown_runs.proofs.Quiet.{Placed, line_of}
 use Rattle.shown_runs.proofs.Quiet.{IsLined, Rests, Stands}
 use Rattle.shown_runs.proofs.Quiet.{rendez, sema_at}
 
@@ -69,6 +72,8 @@ module _ (program : Program) (given : Spot → Given) (objects : Objects) where
     pub phase_is : phase_of at.world pid ≡ phase.Asleep (rendez_at objects sema pid) number
     -- it is posted there, and its seat has a unit
     pub rests : Rests program given objects at pid (For (want.Unit sema)) Granted set most
+    -- and it does not wait in the space
+    pub placed : Placed program given objects at pid false most
 
   -- ---- the position
 
@@ -99,6 +104,8 @@ module _ (program : Program) (given : Spot → Given) (objects : Objects) where
     pub idle : phase_of at.world by ≡ phase.Idle
     -- it has no mark, and waits nowhere
     pub rests : Rests program given objects at by Free Waiting (q.notes by) most
+    -- and is out of the space
+    pub placed : Placed program given objects at by false most
     -- it was not served by itself
     pub out : stands_in served by ≡ false
     -- each of the served is listed once
@@ -110,6 +117,13 @@ module _ (program : Program) (given : Spot → Given) (objects : Objects) where
     pub lined : (other : ℕ) → other < length program.values → other ≢ sema
         → IsLined program given objects (sema_at program given objects at other)
         (slice_index q.values other) (q.line (want.Unit other)) []
+    -- the space has a member for each process
+    pub roomy : procs_of program ≤ length at.object.space
+    -- the line of a tag is who waits with it
+    pub tags : (tag : ℕ) → q.line (want.Partner tag)
+        ≡ line_of (waiter_of at.object.space tag)
+    -- of each tag one member waits at most
+    pub apart : AtMostOne at.object.space
 
   -- one semaphore of the objects has become this
   abbrev pub with_sema : ObjectStates → ℕ → SemaState → ObjectStates

@@ -15,6 +15,8 @@ use Rattle.semaphore.specs.declared.sema_object.SemaReply.TheVariants as reply
 use Rattle.semaphore.specs.declared.sema_object.Stage.TheVariants.{Granted, Idle, Waiting}
 use Rattle.semaphore.specs.Units.{SemaState, after, answer_to, grants_of, stage_of}
 use Rattle.semaphore.specs.WaitQueue.{stands_in}
+use Rattle.tag_space.specs.declared.place.Place.{Place}
+use Rattle.tag_space.specs.GroupObject.{place_of}
 use Rattle.calls.specs.declared.ending.Ending.TheVariants as ending
 use Rattle.calls.specs.declared.line.Line.{Line}
 use Rattle.calls.specs.declared.process.Want.TheVariants as want
@@ -39,11 +41,14 @@ use Rattle.shown_runs.specs.ShownRuns.{arrived, rendez_at, spot_of}
 use Rattle.shown_runs.proofs.Acts.{Leads, asks, wakes}
 use Rattle.shown_runs.proofs.CallSteps.{apart_numbers, at_else, at_self, changed_after, every}
 use Rattle.shown_runs.proofs.CallSteps.{frame_words, in_library, leads_to, row_low}
+use Rattle.explored_calls.proofs.SpaceFacts.{AtMostOne}
 use Rattle.shown_runs.proofs.Quiet.{such_calls}
+use Rattle.shown_runs.proofs.Quiet.{Placed, SpaceFrame, meeting_apart, placed_still, space_by}
+use Rattle.shown_runs.proofs.Quiet.{space_words}
 use Rattle.shown_runs.proofs.Quiet.{Changed, Frame, IsLined, Quiet, Rests, SameSeat, Stands}
 use Rattle.shown_runs.proofs.Quiet.{frame_by, rendez, rests_own, rests_still, sema_at}
 use Rattle.shown_runs.proofs.Quiet.{stands_still}
-use Rattle.shown_runs.proofs.QuietSteps.{ComesQuiet}
+use Rattle.shown_runs.proofs.QuietSteps.{ComesQuiet, tags_stay}
 use Rattle.shown_runs.proofs.ReleaseFacts.{named_one, names_first, names_none}
 use Rattle.shown_runs.proofs.Serving.{IsServed, Serving, collected, goes_with_unit, has_unit}
 
@@ -160,6 +165,7 @@ module _ (program : Program) (given : Spot → Given) (objects : Objects)
               ap (λ (o : ObjectStates). sema_state objects o other) goes.known.now.object_is
               ∙ get_or-set_other at.object.semas sema other _ _ apart;
           choices = ap (λ (o : ObjectStates). o.choices) goes.known.now.object_is;
+          space = ap (λ (o : ObjectStates). o.space) goes.known.now.object_is;
         }
 
     same_seat : (pid : ℕ) → pid ≢ x
@@ -188,6 +194,15 @@ module _ (program : Program) (given : Spot → Given) (objects : Objects)
         (λ r far. goes.stays.posted r far ∙ woken.stays.posted r far)
         (λ r far. goes.stays.levels r far ∙ woken.stays.levels r far)
         changed there below x_low x_low (inl apart) (λ same. absurd (apart same))
+
+    space_frame : (pid : ℕ) → pid < procs_of program
+        → SpaceFrame program given objects at goes.next pid
+    space_frame pid less =
+        space_by program given objects are at goes.next (rendez program given objects sema x) pid
+        (λ r far. goes.stays.posted r far ∙ woken.stays.posted r far)
+        (λ r far. goes.stays.levels r far ∙ woken.stays.levels r far)
+        (meeting_apart program given objects are sema x pid there x_low less)
+        (ap (λ (places : List Place). place_of places pid) changed.space)
 
     state_stays : (pid : ℕ) → pid ≢ by → pid ≢ x
         → state_of (library_of program given objects) goes.next pid
@@ -231,6 +246,8 @@ module _ (program : Program) (given : Spot → Given) (objects : Objects)
             phase_is = goes.known.now.phase_is;
           };
           rests = x_rests;
+          placed = placed_still program given objects at goes.next x false most most one.placed
+              (space_frame x x_low) (omega arith);
         })
 
     still_in : (pid : ℕ) → stands_in xs pid ≡ true → stands_in (x ∷ xs) pid ≡ true
@@ -270,6 +287,8 @@ module _ (program : Program) (given : Spot → Given) (objects : Objects)
               (frame pid less (not_x pid is))
               (goes.stays.flags pid (not_x pid is)
               ∙ (woken.stays.flags pid (not_x pid is) ∙ old.rests.flags_is)) (omega arith);
+          placed = placed_still program given objects at goes.next pid false most most old.placed
+              (space_frame pid less) (omega arith);
         }
 
     -- and whoever has none stands as before
@@ -285,7 +304,7 @@ module _ (program : Program) (given : Spot → Given) (objects : Objects)
         pid)
         (q.notes pid) most most old (state_stays pid not_by apart) (phase_stays pid not_by apart)
         (goes.stays.flags pid apart ∙ (woken.stays.flags pid apart ∙ old.rests.flags_is))
-        (frame pid less apart) (omega arith)
+        (frame pid less apart) (space_frame pid less) (omega arith)
 
     serves_next : Serving program given objects q sema by xs names most ways goes.next
     serves_next =
@@ -303,6 +322,8 @@ module _ (program : Program) (given : Spot → Given) (objects : Objects)
               (q.notes by) most most serving.rests (frame by low by_apart)
               (goes.stays.flags by by_apart
               ∙ (woken.stays.flags by by_apart ∙ serving.rests.flags_is)) (omega arith);
+          placed = placed_still program given objects at goes.next by false most most serving.placed
+              (space_frame by low) (omega arith);
           out = let out : stands_in (x ∷ xs) by ≡ false = serving.out in grind (arith, nat_tests);
           seats = serving.seats.2;
           lined_here = subst (λ (s : SemaState). IsLined program given objects s
@@ -318,6 +339,11 @@ module _ (program : Program) (given : Spot → Given) (objects : Objects)
           lined = λ other below apart. subst (λ (s : SemaState). IsLined program given objects s
               (slice_index q.values other) (q.line (want.Unit other)) [])
               (sym (changed.elsewhere other apart)) (serving.lined other below apart);
+          roomy = subst (λ (places : List Place). procs_of program ≤ length places)
+              (sym changed.space) serving.roomy;
+          tags = tags_stay program given objects are q q at goes.next changed.space (λ tag. refl)
+              serving.tags;
+          apart = subst AtMostOne (sym changed.space) serving.apart;
         }
 
     -- So the first of them is woken and goes on, and the next one is to be named.
@@ -410,6 +436,12 @@ module _ (program : Program) (given : Spot → Given) (objects : Objects)
           (every _ _ _ asked.stays.levels asked.known.now.level_is) asked_changed
           (λ same. alike pid)
 
+      asked_space : (pid : ℕ) → SpaceFrame program given objects at asked.next pid
+      asked_space pid =
+          space_words program given objects at asked.next pid
+          (every _ _ _ asked.stays.posted asked.known.now.posted_is)
+          (every _ _ _ asked.stays.levels asked.known.now.level_is) asked_changed.space
+
       flags_stay : (pid : ℕ) → pid ≢ by → (set : NoteSet)
           → Rests program given objects at pid (q.waits pid) Waiting set most
           → Rests program given objects asked.next pid (q.waits pid) Waiting set most
@@ -426,13 +458,26 @@ module _ (program : Program) (given : Spot → Given) (objects : Objects)
           stands_still program given objects at asked.next pid (q.place pid) (q.waits pid)
           (q.notes pid) (q.notes pid) most most old (asked.stays.states pid apart)
           (asked.stays.phases pid apart) (asked.stays.flags pid apart ∙ old.rests.flags_is)
-          (λ other below. asked_frame pid other) (omega arith)
+          (λ other below. asked_frame pid other) (asked_space pid) (omega arith)
 
       by_rests : Rests program given objects asked.next by Free Waiting (q.notes by) most
       by_rests =
           rests_still program given objects at asked.next by Free Waiting (q.notes by) (q.notes by)
           most most serving.rests (λ other below. asked_frame by other) asked.known.now.flags_is
           (omega arith)
+
+      by_placed : Placed program given objects asked.next by false most
+      by_placed =
+          placed_still program given objects at asked.next by false most most serving.placed
+          (asked_space by) (omega arith)
+
+      roomy_asked : procs_of program ≤ length asked.next.object.space
+      roomy_asked =
+          subst (λ (places : List Place). procs_of program ≤ length places)
+          (sym asked_changed.space) serving.roomy
+
+      apart_asked : AtMostOne asked.next.object.space
+      apart_asked = subst AtMostOne (sym asked_changed.space) serving.apart
 
       lined_asked : (other : ℕ) → other < length program.values → other ≢ sema
           → IsLined program given objects (sema_at program given objects asked.next other)
@@ -456,12 +501,17 @@ module _ (program : Program) (given : Spot → Given) (objects : Objects)
             gone = serving.gone;
             idle = asked.known.now.phase_is;
             rests = by_rests;
+            placed = by_placed;
             out = serving.out;
             seats = serving.seats;
             lined_here = subst (λ (s : SemaState). IsLined program given objects s
                 (slice_index q.values sema) (q.line (want.Unit sema)) now)
                 (sym asked_changed.here) lined;
             lined = lined_asked;
+            roomy = roomy_asked;
+            tags = tags_stay program given objects are q q at asked.next asked_changed.space
+                (λ tag. refl) serving.tags;
+            apart = apart_asked;
           }
         where
           apart_from : (pid : ℕ) → stands_in served pid ≡ true → pid ≢ by
@@ -486,6 +536,8 @@ module _ (program : Program) (given : Spot → Given) (objects : Objects)
                     (For (want.Unit sema)) Granted (q.notes pid) (q.notes pid) most most old.rests
                     (λ other below. asked_frame pid other)
                     (asked.stays.flags pid (apart_from pid is) ∙ old.rests.flags_is) (omega arith);
+                placed = placed_still program given objects at asked.next pid false most most
+                    old.placed (asked_space pid) (omega arith);
               }
 
       -- or nobody is, and the release is over
@@ -504,6 +556,10 @@ module _ (program : Program) (given : Spot → Given) (objects : Objects)
             choices = asked_changed.choices ∙ serving.choices;
             each = λ pid less. each_by pid less (same_or_not pid by);
             lined = λ other below. lined_by other below (same_or_not other sema);
+            roomy = roomy_asked;
+            tags = tags_stay program given objects are q (gone q by line.next) at asked.next
+                asked_changed.space (λ tag. refl) serving.tags;
+            apart = apart_asked;
           }
         where
           own : Stands program given objects asked.next by line.next Free (q.notes by) most
@@ -514,6 +570,7 @@ module _ (program : Program) (given : Spot → Given) (objects : Objects)
                   phase_is = asked.known.now.phase_is;
                 };
                 rests = by_rests;
+                placed = by_placed;
               }
 
           each_by : (pid : ℕ) → pid < procs_of program → (pid ≡ by) ⊎ (pid ≢ by)

@@ -1,5 +1,5 @@
 -- What is shown of each schedule of the explorer's machine: a run of the library's calls makes it.
-use Rattle.std.proofs.Common.{◌≡◌, ℕ, zero, suc, ◌<◌}
+use Rattle.std.proofs.Common.{true, ◌≡◌, ℕ, zero, suc, ◌<◌}
 use Rattle.std.proofs.Common.{Bool, false, Option, Some, None}
 use Rattle.std.proofs.Common.{List, [], ◌∷◌, length, refl, sym, ap, ◌∙◌, subst, arith}
 use Rattle.std.specs.Prelude.{slice_get}
@@ -25,9 +25,11 @@ use Rattle.explored_calls.specs.LibraryCalls.{Given, Spot}
 use Rattle.explored_calls.specs.LibraryCalls.{library_of}
 use Rattle.explored_calls.proofs.Queued.{Halt, Queued, Shows, itself, process_of, stands_by}
 use Rattle.explored_calls.proofs.Queued.Halt.{For, Free, Stays}
+use Rattle.shown_runs.specs.ShownRuns.{SleepsForPartner}
 use Rattle.shown_runs.specs.ShownRuns.{ComesTo, IsAsShown}
 use Rattle.shown_runs.specs.ShownRuns.{StandsSo}
 use Rattle.shown_runs.proofs.Acts.{Reached, SuchSystem}
+use Rattle.shown_runs.proofs.Quiet.{IsMeeting, Placed, is_meeting, meeting, place_at}
 use Rattle.shown_runs.proofs.Quiet.{such_calls}
 use Rattle.shown_runs.proofs.Quiet.{Quiet, Rests, StandsBy, rendez, sema_at}
 
@@ -119,6 +121,26 @@ module _ (program : Program) (given : Spot → Given) (objects : Objects) (q : Q
   flags_after pid low =
       ap (λ (w : State). flags_of w pid) to.world ∙ (quiet.each pid low).rests.flags_is
 
+  -- one that waits for a partner
+  partner_after : (pid tag : ℕ) → pid < procs_of program
+      → IsMeeting program given objects at pid (q.place pid) tag
+      → Placed program given objects at pid true most
+      → SleepsForPartner program given objects to.run pid (q.place pid) tag
+  partner_after pid tag low meets placed =
+      record {
+        number = (place_at program given objects at pid).meetings;
+        at = state_after pid _ meets.state_is;
+        asleep = stage_after pid _ meets.phase_is;
+        posted = ap (λ (w : State). posted_of w (meeting program given objects pid)) to.world
+            ∙ placed.posted;
+        below =
+            let level = ap (λ (w : State). level_of w (meeting program given objects pid)) to.world
+            in
+            let under = placed.level in
+            rw level under;
+        unmarked = ap (λ (f : ProcFlags). f.wake) (flags_after pid low);
+      }
+
   -- it stands so
   stands_after : (pid : ℕ) → pid < procs_of program
       → StandsSo program given objects to.run pid (q.place pid) (process_of q pid).standing
@@ -150,7 +172,10 @@ module _ (program : Program) (given : Spot → Given) (objects : Objects) (q : Q
                 rw level under;
             unmarked = ap (λ (f : ProcFlags). f.wake) (flags_after pid low);
           }
-      by (For (want.Partner tag)) none rests is = none
+      by (For (want.Partner tag)) meets rests is =
+          partner_after pid tag low meets
+          (subst (λ (w : Halt). Placed program given objects at pid
+          (is_meeting program given objects w) most) is (quiet.each pid low).placed)
       by (Stays amid) none rests is = absurd none
 
   -- So the run comes to the position.

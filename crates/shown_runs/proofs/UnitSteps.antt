@@ -99,6 +99,7 @@ module _ (program : Program) (given : Spot → Given) (objects : Objects)
         counted = length-set q.values sema _;
         values = λ other apart. get_or-set_other q.values sema other _ 0 apart;
         lines = λ other apart. refl;
+        partners = λ tag. refl;
       })
 
   -- a call that leaves the semaphore as it was
@@ -128,6 +129,7 @@ module _ (program : Program) (given : Spot → Given) (objects : Objects)
         counted = refl;
         values = λ other apart. refl;
         lines = λ other apart. refl;
+        partners = λ tag. refl;
       })
 
   -- a semacquire that has its unit

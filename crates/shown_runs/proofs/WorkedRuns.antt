@@ -36,6 +36,7 @@ use Rattle.call_machines.specs.Schedules.{run_of}
 use Rattle.call_machines.proofs.ScheduleLemmas.{schedules_are_runs}
 use Rattle.object_machines.specs.ObjectCalls.{Objects}
 use Rattle.explored_calls.specs.LibraryCalls.{Given, Spot, library_of}
+use Rattle.shown_runs.specs.ShownRuns.{SleepsForPartner}
 use Rattle.shown_runs.specs.ShownRuns.{AreFewSteps, ComesToNever, IsAsShown}
 use Rattle.shown_runs.specs.ShownRuns.{IsAtPlace, IsShownCall, LibraryStep, SleepsFor}
 use Rattle.shown_runs.specs.ShownRuns.{shown_at, with_choices}
@@ -76,6 +77,12 @@ abbrev noted : Program
 noted =
     program_of (line_to (call.Acquire 0 None) 9 8
     ∷ line_to (call.Note 0 (only Interrupt)) 9 9 ∷ []) (0 ∷ 1 ∷ [])
+
+-- both meet with one tag
+abbrev meeting : Program
+meeting =
+    program_of (line_to (call.Rendezvous 7 None) 9 8 ∷ line_to (call.Rendezvous 7 None) 9 8 ∷ [])
+    (0 ∷ 1 ∷ [])
 
 -- the first goes one of two ways, of which one is never to be gone
 abbrev forked : Program
@@ -118,6 +125,9 @@ it_is_served = refl
 both_wait : is_stuck (system_of stuck) (shown_at stuck (1 ∷ 0 ∷ [])) ≡ true
 both_wait = refl
 
+they_meet : (shown_at meeting (1 ∷ 0 ∷ [])).processes ≡ stands_at 9 ∷ stands_at 9 ∷ []
+they_meet = refl
+
 -- notes end the wait: the third mover is the other way of the first process
 it_turns_away : (shown_at noted (2 ∷ 1 ∷ 0 ∷ [])).processes ≡ stands_at 8 ∷ stands_at 9 ∷ []
 it_turns_away = refl
@@ -130,8 +140,8 @@ it_reaches = refl
 with_a_deadline : IsShownCall (call.Acquire 0 (Some 5)) ≡ ⊥
 with_a_deadline = refl
 
-a_rendezvous : IsShownCall (call.Rendezvous 7 None) ≡ ⊥
-a_rendezvous = refl
+a_late_rendezvous : IsShownCall (call.Rendezvous 7 (Some 5)) ≡ ⊥
+a_late_rendezvous = refl
 
 few : AreFewSteps (1 ∷ 0 ∷ [])
 few = omega arith
@@ -203,7 +213,7 @@ module _ (lock : Locked SemaState SemaCall SemaReply)
 
   -- before it has posted itself it does not
   not_posted : SleepsFor two given (with_choices objects []) (run two [] (0 ∷ [])) 0 0 0 → ⊥
-  not_posted sleeps = let asleep = sleeps.asleep in cc
+  not_posted waits = let asleep = waits.asleep in cc
 
   -- and the other has not made its call
   begins : IsAtPlace two given (with_choices objects []) (run two [] (0 ∷ 0 ∷ 0 ∷ [])) 1 1
@@ -216,7 +226,7 @@ module _ (lock : Locked SemaState SemaCall SemaReply)
   -- whoever was marked does not sleep as one that waits
   marked : SleepsFor two given (with_choices objects []) (run two [] wakeup) 0 0 0 → ⊥
   unfolding passed
-  marked sleeps = let unmarked = sleeps.unmarked in cc
+  marked waits = let unmarked = waits.unmarked in cc
 
   -- the process looks, clears its mark and asks again; and the release asks who is next
   abbrev whole : List ℕ
@@ -258,6 +268,38 @@ module _ (lock : Locked SemaState SemaCall SemaReply)
       let notes : only Interrupt ≡ no_notes = shown.notes in
       let both : true ≡ false = ap (λ (s : NoteSet). s.interrupt) notes in
       no_bools both
+
+  -- ---- two who meet
+
+  -- the first calls and falls asleep
+  calls : SleepsForPartner meeting given (with_choices objects [])
+      (run meeting [] (0 ∷ 0 ∷ 0 ∷ [])) 0 0 7
+  calls =
+      record {
+        number = 0;
+        at = refl;
+        asleep = refl;
+        posted = refl;
+        below = omega arith;
+        unmarked = refl;
+      }
+
+  -- before it has posted itself it does not
+  not_yet : SleepsForPartner meeting given (with_choices objects [])
+      (run meeting [] (0 ∷ [])) 0 0 7 → ⊥
+  not_yet waits = let asleep = waits.asleep in cc
+
+  -- the second meets it and wakes it; and it asks again
+  abbrev both_meet : List ℕ
+  both_meet = 0 ∷ 0 ∷ 0 ∷ 1 ∷ 1 ∷ 1 ∷ 1 ∷ 0 ∷ 0 ∷ 0 ∷ []
+
+  first_has_met : IsAsShown meeting given (with_choices objects []) (run meeting [] both_meet) 0
+      (stands_at 9)
+  first_has_met = record { stands = record { at = refl; idle = refl }; notes = refl }
+
+  second_has_met : IsAsShown meeting given (with_choices objects []) (run meeting [] both_meet) 1
+      (stands_at 9)
+  second_has_met = record { stands = record { at = refl; idle = refl }; notes = refl }
 
   -- ---- two who wait for each other
 

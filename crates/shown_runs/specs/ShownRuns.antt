@@ -10,6 +10,8 @@ use Rattle.searches.specs.Schedule.{ComesToStuck, IsSchedule, position_of}
 use Rattle.searches.specs.Stuck.{is_stuck}
 use Rattle.semaphore.specs.declared.limits.TheConstants.{LAST_GRANT}
 use Rattle.semaphore.specs.Seats.{rendez_of_seat}
+use Rattle.tag_space.specs.Members.{rendez_of_member}
+use Rattle.tag_space.specs.Rendezvous.{Offered}
 use Rattle.calls.specs.declared.call.Call.{Call}
 use Rattle.calls.specs.declared.call.Call.TheVariants as call
 use Rattle.calls.specs.declared.course.Course.TheVariants as course
@@ -29,20 +31,22 @@ use Rattle.call_machines.specs.Replies.{AreAskedSo, SuchStopAtRest}
 use Rattle.call_machines.specs.Runs.{IsOfCalls, Step, own_in, procs, world_at}
 use Rattle.call_machines.specs.WaitTables.WaitState.{Waits}
 use Rattle.sema_machines.specs.SemaRuns.CallState.{Takes}
+use Rattle.space_machines.specs.MeetMachine.MeetState.{Calls}
 use Rattle.object_machines.specs.ObjectCalls.{ObjectCall, ObjectReply, ObjectRequest}
 use Rattle.object_machines.specs.ObjectCalls.{Objects, object_calls, sema_of}
-use Rattle.object_machines.specs.ObjectCalls.ObjectCall.{AtSema}
+use Rattle.object_machines.specs.ObjectCalls.ObjectCall.{AtSema, InSpace}
 use Rattle.object_machines.specs.ObjectEnds.{LeavesUnworn}
 use Rattle.explored_calls.specs.LibraryCalls.{AreItsObjects, Given, Spot, is_at_head, library_of}
 use Rattle.explored_calls.specs.LibraryCalls.{library_program, spot_at}
 
 -- ---- which programs
 
--- Left out by name: calls with a deadline, calls of pipes, sleeps and wakeups, and rendezvous.
+-- Left out by name: calls with a deadline, calls of pipes, and sleeps and wakeups.
 abbrev pub IsShownCall : Call → Type 0
 IsShownCall (call.Acquire sema None) = ⊤
 IsShownCall (call.Try sema) = ⊤
 IsShownCall (call.Release sema count) = ⊤
+IsShownCall (call.Rendezvous tag None) = ⊤
 IsShownCall (call.Note pid notes) = ⊤
 IsShownCall call.Drain = ⊤
 IsShownCall call.Choose = ⊤
@@ -53,7 +57,8 @@ abbrev pub AreShownCalls : Program → Type 0
 AreShownCalls program =
     (place : ℕ) (line : Line) → slice_get program.lines place ≡ Some line → IsShownCall line.call
 
--- A step grants a seat one unit at most, so in so few steps the grants of no seat are worn out.
+-- A step grants a seat one unit at most, and meets a member once, so in so few steps the grants of
+-- no seat and the meetings of no member are worn out.
 abbrev pub AreFewSteps : List ℕ → Type 0
 AreFewSteps movers = length movers ≤ LAST_GRANT
 
@@ -73,6 +78,11 @@ spot_of pid place = record { by = pid; place = place }
 -- the Rendez in which a process waits for a semaphore
 abbrev pub rendez_at : Objects → ℕ → ℕ → RendezId
 rendez_at objects sema pid = rendez_of_seat (sema_of objects sema).sema pid
+
+-- what it offers in its rendezvous with this tag: the value that is given at that place
+abbrev pub offered_at : (Spot → Given) → ℕ → ℕ → ℕ → Offered
+offered_at given pid place tag =
+    record { tag = record { 0 = tag }; value = (given (spot_of pid place)).value }
 
 module _ (program : Program) (given : Spot → Given) (objects : Objects) where
   -- where a process is that goes on at a place: about to make the call there, or at its end
@@ -101,10 +111,29 @@ module _ (program : Program) (given : Spot → Given) (objects : Objects) where
           (rendez_at objects sema pid).0 ≤ number
       pub unmarked : (flags_of (world_at (library_of program given objects) run) pid).wake ≡ false
 
+    -- It sleeps in the rendezvous of this place, in the same way, in the Rendez of its member.
+    pub record SleepsForPartner (pid place tag : ℕ) : Type 0 where
+      pub number : ℕ
+      pub at : (own_in (library_of program given objects) pid run).at
+          ≡ In (spot_of pid place) (InSpace (record {
+            member = pid;
+            offered = offered_at given pid place tag;
+            at = Calls (Waits number);
+          }))
+      pub asleep : (own_in (library_of program given objects) pid run).stage
+          ≡ phase.Asleep (rendez_of_member objects.space pid) number
+      pub posted : posted_of (world_at (library_of program given objects) run)
+          (rendez_of_member objects.space pid).0 ≡ posted_as pid
+      pub below : level_of (world_at (library_of program given objects) run)
+          (rendez_of_member objects.space pid).0 ≤ number
+      pub unmarked : (flags_of (world_at (library_of program given objects) run) pid).wake ≡ false
+
     -- by how a process of the explorer's machine stands
     abbrev pub StandsSo : ℕ → ℕ → Standing → Type 0
     StandsSo pid place standing.Begins = IsAtPlace pid place
     StandsSo pid place (standing.Waits (want.Unit sema) before) = SleepsFor pid place sema
+    StandsSo pid place (standing.Waits (want.Partner tag) before) =
+        SleepsForPartner pid place tag
     StandsSo pid place other = ⊥
 
     -- the process is where the explorer's machine has it, with the same notes

@@ -9,8 +9,9 @@ ghost use Rattle.shown_runs.specs.ShownRuns.{
 
 /// Each schedule of the explorer's machine is made by a run of the library's calls, for some list
 /// of choices: at its end each process has ended, or is about to make its call, or sleeps in it,
-/// just as the position has it. Covered are schedules that do not end the program, and in which no
-/// grants of a seat are worn out; and semaphores, notes, drains, choices and loops.
+/// just as the position has it. Covered are schedules that do not end the program, of so few steps
+/// that no grants and no meetings are worn out; and semaphores, rendezvous, notes, drains, choices
+/// and loops.
 pub fn schedules_are_runs()
     ensures { ShownAreRuns }
 {}
