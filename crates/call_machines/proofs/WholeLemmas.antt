@@ -29,7 +29,8 @@ use Rattle.call_machines.specs.IdleRuns.{IdleStopAtRest, IdleStuckAtRest, Idles,
 use Rattle.call_machines.specs.IdleRuns.{WakeupsAreDueIdle}
 use Rattle.call_machines.specs.Machine.{Next, Outcome}
 use Rattle.call_machines.specs.Programs.{ComesTo, EachBegins, Program, ProgramState, at_place}
-use Rattle.call_machines.specs.Programs.{MayIdleIn, follows, goes_in_call, program_goes_on, program_system}
+use Rattle.call_machines.specs.Programs.{MayIdleIn, follows, goes_in_call, program_goes_on}
+use Rattle.call_machines.specs.Programs.{program_system}
 use Rattle.call_machines.specs.Programs.{with_call}
 use Rattle.call_machines.specs.Programs.ProgramState.{Ended, In}
 use Rattle.call_machines.specs.Replies.{SuchStopAtRest, SuchStuckAtRest}
@@ -44,9 +45,11 @@ use Rattle.call_machines.proofs.StrictLemmas.{over_at_rest, strict_rests_hold, s
 
 module _ {At Request Reply Out Object Place : Type 0} (calls : System At Request Reply Out Object)
     (program : Program Place At Out) (starts : List (Option Place)) where
+  -- the processes that run the program of these calls
   abbrev pub whole : System (ProgramState Place At) Request Reply Unit Object
   whole = program_system calls program starts
 
+  -- the place where a process starts in the program
   abbrev pub start_at : ℕ → Option Place
   start_at pid = slice_index_or starts pid None
 
@@ -188,6 +191,7 @@ module _ {At Request Reply Out Object Place : Type 0} (calls : System At Request
   IsOwn pid (In place at) = (times : ℕ) × ComesTo program (start_at pid) times place
   IsOwn pid Ended = ⊤
 
+  -- the position of the calls under way, with these states
   abbrev pub shown : Coarse whole → List At → Coarse calls
   shown p states =
       record { object = p.object; states = states; notes = p.notes; levels = p.levels }
@@ -197,12 +201,14 @@ module _ {At Request Reply Out Object Place : Type 0} (calls : System At Request
       (invariant : WholeInvariant calls (λ object at. goes object at ≡ true) MayIdle Begins Own
       Holds)
       (many : length starts ≡ procs calls) (begin : EachBegins program Begins starts) where
+    -- where the call of a process is, of these states
     abbrev pub state_at : List At → ℕ → At
     state_at states pid = slice_index_or states pid calls.none
 
     as_many : procs whole ≡ procs calls
     as_many = length-map starts (at_place calls program) ∙ many
 
+    -- a process of the program is one of the calls
     pub few : (pid : ℕ) → pid < procs whole → pid < procs calls
     few pid = subst (λ (n : ℕ). pid < n) as_many
 
@@ -214,9 +220,11 @@ module _ {At Request Reply Out Object Place : Type 0} (calls : System At Request
       pub holds : Holds (shown p states)
       -- each process has a state
       pub sized : length p.states ≡ procs calls
+      -- and one of its call
       pub states_sized : length states ≡ procs calls
       -- that of its call
       pub show : (pid : ℕ) → pid < procs calls → IsShown (at_of whole p pid) (state_at states pid)
+      -- and each is at a place of its program
       pub own : (pid : ℕ) → IsOwn pid (at_of whole p pid)
 
     -- ---- the first calls
@@ -500,6 +508,7 @@ module _ {At Request Reply Out Object Place : Type 0} (calls : System At Request
           by Ended is can =
               absurd (over_still p.object (notes_of whole p mover) move.grain can)
 
+    -- it holds after any moves of the processes
     pub fine_after : (moves : List (Move Request Reply)) → AreLooseMoves whole moves
         → Fine (coarse_of whole moves)
     fine_after [] all = at_start
@@ -510,14 +519,20 @@ module _ {At Request Reply Out Object Place : Type 0} (calls : System At Request
     -- ---- the premises of the law on strict runs
 
     -- who sleeps in its program sleeps in its call
-    pub record SleepsSo (p : Coarse whole) (fine : Fine p) (pid : ℕ) (rendez : RendezId) (number : ℕ)
-        : Type 0 where
+    pub record SleepsSo (p : Coarse whole) (fine : Fine p) (pid : ℕ) (rendez : RendezId)
+        (number : ℕ) : Type 0 where
+      -- the place of the program where it is
       pub place : Place
+      -- and the state of the call at that place
       pub at : At
+      -- it is there in the program
       pub is : at_of whole p pid ≡ In place at
+      -- and so is the call that is under way
       pub call_is : state_at fine.states pid ≡ at
+      -- this call sleeps there with that number
       pub does : calls.machine.does at ≡ Next.Sleep rendez number
 
+    -- each process that sleeps does so in its call
     pub sleeps_so : (p : Coarse whole) (fine : Fine p) (pid : ℕ) → pid < procs calls
         → (rendez : RendezId) (number : ℕ)
         → whole.machine.does (at_of whole p pid) ≡ Next.Sleep rendez number
@@ -538,6 +553,7 @@ module _ {At Request Reply Out Object Place : Type 0} (calls : System At Request
             }
         by Ended is show sleeps = absurd cc
 
+    -- the call that is under way sleeps so
     pub asleep : (p : Coarse whole) (fine : Fine p) (pid : ℕ) (rendez : RendezId) (number : ℕ)
         → (so : SleepsSo p fine pid rendez number)
         → calls.machine.does (at_of calls (shown p fine.states) pid) ≡ Next.Sleep rendez number
@@ -597,8 +613,8 @@ module _ {At Request Reply Out Object Place : Type 0} (calls : System At Request
             (over_same (calls.machine.does at) over)
         ended Ended show over = show
 
-        idly : (s : ProgramState Place At) → IsShown s (state_at fine.states pid) → MayIdleIn MayIdle s
-            → (request : Request) → whole.machine.does s ≡ Next.Ask request
+        idly : (s : ProgramState Place At) → IsShown s (state_at fine.states pid)
+            → MayIdleIn MayIdle s → (request : Request) → whole.machine.does s ≡ Next.Ask request
             → AsksIdly calls MayIdle (state_at fine.states pid)
         idly (In place at) show may request asks =
             subst (AsksIdly calls MayIdle) (sym show)
@@ -616,6 +632,7 @@ module _ {At Request Reply Out Object Place : Type 0} (calls : System At Request
             inr (inr (idly (at_of whole p pid) (fine.show pid low) idles.may idles.request
             idles.asks))
 
+    -- the object lets the process go on, by its call
     abbrev pub GoesOn : Object → ProgramState Place At → Type 0
     GoesOn object state = goes_in_call goes object state ≡ true
 
@@ -660,9 +677,11 @@ module _ {At Request Reply Out Object Place : Type 0} (calls : System At Request
 
     -- a process that rests where a place is served rests on while it waits there
     module _ (served : Place → Bool) where
+      -- the process has ended, or is at a place like this
       abbrev pub RestsAt : ProgramState Place At → Type 0
       RestsAt state = rests_at served state ≡ true
 
+      -- a call that asks again does so in its program
       pub again_so : (object : Object) (place : Place) (at : At)
           → AsksAgain calls (λ o a. goes o a ≡ true) object at
           → AsksAgainAtRest whole GoesOn RestsAt object (In place at)
@@ -775,7 +794,8 @@ module _ {At Request Reply Out Object Place : Type 0} (calls : System At Request
         → NeverStrictlyStuck whole GoesOn → NoRunDeadlocks whole
     programs_end apart never =
         strict_rests_hold whole GoesOn (IsOver whole) (are_apart apart) below_top due
-        (over_at_rest whole GoesOn (RestsAt (λ place. false)) (again_at_rest (λ place. false))) never
+        (over_at_rest whole GoesOn (RestsAt (λ place. false)) (again_at_rest (λ place. false)))
+        never
 
     -- and so of runs in which each reply is such a one, and where some places are served
     pub such_programs_rest : (Comes : Request → Reply → Type 0) (served : Place → Bool)
@@ -792,5 +812,5 @@ module _ {At Request Reply Out Object Place : Type 0} (calls : System At Request
         → IdleStuckAtRest whole (MayIdleIn MayIdle) Comes (RestsAt served) GoesOn
         → IdleStopAtRest whole (MayIdleIn MayIdle) Comes (RestsAt served)
     idle_programs_rest Comes served apart never =
-        idle_rests_hold whole (MayIdleIn MayIdle) GoesOn (RestsAt served) Comes (are_apart apart) below_top
-        due_idle (again_at_rest served) never
+        idle_rests_hold whole (MayIdleIn MayIdle) GoesOn (RestsAt served) Comes (are_apart apart)
+        below_top due_idle (again_at_rest served) never

@@ -1,6 +1,6 @@
 -- The rows of the definitions, one by one, and what each forbids.
 use Rattle.std.proofs.Common.{◌≡◌, ◌<◌, ℕ, zero, suc, Bool, true, false, Option, Some, None, List}
-use Rattle.std.proofs.Common.{[], ◌∷◌, Result, Ok, Err, refl, ap, arith}
+use Rattle.std.proofs.Common.{[], ◌∷◌, Result, Ok, Err, refl, ap, arith, ◌∙◌, ◌⊎◌, inl, inr}
 use Rattle.std.specs.Prelude.{⊤}
 use Rattle.sync_base.specs.declared.fault.Fault.{Fault}
 use Rattle.sync_base.specs.declared.fault.Fault.TheVariants as fault
@@ -22,24 +22,25 @@ use Rattle.call_machines.specs.StrictRuns.{MayLoosely}
 use Rattle.call_machines.specs.Grain.Grain.{Drained, Heard, Noted, Posted, Refused, Returned, Went}
 use Rattle.call_machines.specs.Grain.Grain.{Woken}
 use Rattle.call_machines.specs.GrainEnds.{AreApart, AreUnrefused, SleepsAfter}
-use Rattle.call_machines.specs.Ends.{IsOver, RestAfter}
+use Rattle.call_machines.specs.Ends.{HasStopped, IsOver, IsParked, RestAfter}
+use Rattle.call_machines.specs.IdleRuns.{HasStoppedIdle, Idles}
 use Rattle.call_machines.specs.Replies.{AreAskedSo, AreHeardSo}
 use Rattle.call_machines.specs.Machine.{Next, Outcome, next_with, outcome_with}
-use Rattle.call_machines.specs.Programs.{rests_at}
+use Rattle.call_machines.specs.Programs.{MayIdleIn, rests_at}
 use Rattle.call_machines.specs.Programs.{ComesTo, EachBegins, Program, ProgramState, goes_in_call}
 use Rattle.call_machines.specs.Programs.{list_program, program_does, program_goes_on}
 use Rattle.call_machines.specs.Programs.{program_system, with_call}
 use Rattle.call_machines.specs.Programs.ProgramState.{Ended, In}
 use Rattle.call_machines.specs.Runs.{IsAnswered, IsNext, IsOfCalls, event_for, outcome_of}
-use Rattle.call_machines.specs.Runs.{System, own_after}
+use Rattle.call_machines.specs.Runs.{System, own_after, world_at}
 use Rattle.call_machines.specs.Runs.Act.{Asked, Made}
 use Rattle.call_machines.specs.WaitTables.{AllowsNoMore, Keeps, does, goes_on}
 use Rattle.call_machines.specs.WaitTables.WaitState.{Asking, Begun, Leaving, Over, Returning, Waits}
 use Rattle.call_machines.specs.WholeCalls.{IsThereFor, events_of}
 use Rattle.call_machines.proofs.WorkedLatch.{LatchCall, LatchReply, LatchState, asked}
 use Rattle.call_machines.proofs.WorkedLatch.{asleep, latch, latch_of, lone}
-use Rattle.call_machines.proofs.WorkedLatch.{latch_after, latch_answer, means, means_late, proc}
-use Rattle.call_machines.proofs.WorkedLatch.{rendez, wait_table}
+use Rattle.call_machines.proofs.WorkedLatch.{latch_after, latch_answer, latch_does, latch_goes_on}
+use Rattle.call_machines.proofs.WorkedLatch.{means, means_late, proc, rendez, wait_table}
 use Rattle.call_machines.proofs.WorkedLatch.LatchCall.{Look, Set}
 use Rattle.call_machines.proofs.WorkedLatch.LatchReply.{Closed, Open}
 use Rattle.call_machines.proofs.WorkedLatch.LatchState.{Setting, Waiting, Waking}
@@ -601,3 +602,74 @@ lets_nobody_go_on = refl
 who_has_ended_goes_nowhere : goes_in_call {At = LatchState} {Place = ℕ} (λ is_open at. is_open) true
     Ended ≡ false
 who_has_ended_goes_nowhere = refl
+
+-- ---- who idles
+
+-- a process looks at the latch again and again
+abbrev Polls : LatchState → Type 0
+Polls (Waiting Begun) = ⊤
+Polls other = ⊥
+
+abbrev polls_goes_on : LatchState → Outcome LatchReply → LatchState
+polls_goes_on (Waiting Begun) (Outcome.Replied Closed) = Waiting Begun
+polls_goes_on at came = latch_goes_on at came
+
+-- alone, or beside one that sets it
+abbrev polls_of : List LatchState → System LatchState LatchCall LatchReply Unit Bool
+polls_of starts =
+    record (latch_of starts) {
+      machine = record { does = latch_does; goes_on = polls_goes_on };
+    }
+
+abbrev polls : System LatchState LatchCall LatchReply Unit Bool
+polls = polls_of (Waiting Begun ∷ [])
+
+-- while the latch is closed nothing comes of it
+it_idles : Idles polls Polls false (Waiting Begun)
+it_idles = record { may = tt; request = Look; asks = refl; stays = refl; again = refl }
+
+it_has_stopped_but_for_that : HasStoppedIdle polls Polls []
+it_has_stopped_but_for_that zero low = inr (inr it_idles)
+it_has_stopped_but_for_that (suc pid) low =
+    let one : suc pid < 1 = low in absurd (omega arith)
+
+but_it_has_not_stopped : HasStopped polls [] → ⊥
+but_it_has_not_stopped stopped = by (stopped 0 (omega arith))
+  where
+    by : ⊥ ⊎ IsParked (world_at polls []) None → ⊥
+    by (inl ended) = ended
+    by (inr parked) = let event = parked.1 in cc
+
+-- where it is open something does
+it_goes_on : Idles polls Polls true (Waiting Begun) → ⊥
+it_goes_on idles =
+    let same : Look ≡ idles.request = (let is = idles.asks in cc) in
+    let again = ap (λ (r : LatchCall). polls_goes_on (Waiting Begun)
+    (Outcome.Replied (latch_answer true r))) same ∙ idles.again in
+    cc
+
+-- a request that changes the object is no idle one
+setting_is_no_idling : Idles (record polls {
+  machine = record {
+    does = λ at. Next.Ask Set;
+    goes_on = λ at came. at;
+  };
+}) (λ at. ⊤) false Setting → ⊥
+setting_is_no_idling idles =
+    let same : Set ≡ idles.request = (let is = idles.asks in cc) in
+    let stays = ap (latch_after false) same ∙ idles.stays in
+    cc
+
+-- nor does one idle that may not
+only_who_may : Idles polls (λ at. ⊥) false (Waiting Begun) → ⊥
+only_who_may idles = idles.may
+
+-- a process idles in a call that may, and not where it has ended
+idles_in_its_call : MayIdleIn {Place = ℕ} Polls (In 0 (Waiting Begun))
+idles_in_its_call = tt
+
+idles_in_no_other : MayIdleIn {Place = ℕ} Polls (In 0 Setting) → ⊥
+idles_in_no_other may = may
+
+who_has_ended_idles_not : MayIdleIn {At = LatchState} {Place = ℕ} Polls Ended → ⊥
+who_has_ended_idles_not may = may

@@ -40,14 +40,19 @@ module _ {At Request Reply Out Object : Type 0} (system : System At Request Repl
   as_grain (Posted pid set) = Posted pid set
   as_grain (Drained set) = Drained set
 
+  -- what a call does, as the call of the larger system does it
   abbrev pub as_next : Next Request Out → Next (TimedRequest Request) (TimedOut Out)
   as_next does = next_with ToDevice FromCall does
 
   module _ (s : TimedObject Object) (notes : NoteSet) where
+    -- a move is one of the call within
     pub record IsInner (does : Next Request Out)
         (grain : Grain (TimedRequest Request) (TimedReply Reply)) : Type 0 where
+      -- which is this move of it
       pub own : Grain Request Reply
+      -- the move is that one in the larger system
       pub is : grain ≡ as_grain own
+      -- and the call within may make it
       pub may : MayLoosely system s.device notes does own
 
     -- what may come of it there is such a move
@@ -93,6 +98,7 @@ module _ {At Request Reply Out Object : Type 0} (system : System At Request Repl
 
   -- ---- what it changes
 
+  -- it changes the object of the call alone
   pub object_as : (s : TimedObject Object) (own : Grain Request Reply)
       → object_with timed s (as_grain own)
       ≡ record { device = object_with system s.device own; timers = s.timers }
@@ -105,6 +111,7 @@ module _ {At Request Reply Out Object : Type 0} (system : System At Request Repl
   object_as s (Posted pid set) = refl
   object_as s (Drained set) = refl
 
+  -- the notes of the same process change by it
   pub receiver_as : (by : ℕ) (own : Grain Request Reply)
       → receiver by (as_grain own) ≡ receiver by own
   receiver_as by (Heard request reply) = refl
@@ -116,6 +123,7 @@ module _ {At Request Reply Out Object : Type 0} (system : System At Request Repl
   receiver_as by (Posted pid set) = refl
   receiver_as by (Drained set) = refl
 
+  -- and they change in the same way
   pub notes_as : (notes : NoteSet) (own : Grain Request Reply)
       → notes_by notes (as_grain own) ≡ notes_by notes own
   notes_as notes (Heard request reply) = refl
@@ -127,6 +135,7 @@ module _ {At Request Reply Out Object : Type 0} (system : System At Request Repl
   notes_as notes (Posted pid set) = refl
   notes_as notes (Drained set) = refl
 
+  -- it raises the same levels as well
   pub levels_as : (levels : List ℕ) (does : Next Request Out) (own : Grain Request Reply)
       → levels_by levels (as_next does) (as_grain own) ≡ levels_by levels does own
   levels_as levels (Next.Wake rendez level) Went = refl
@@ -134,6 +143,7 @@ module _ {At Request Reply Out Object : Type 0} (system : System At Request Repl
 
   -- ---- where the call comes
 
+  -- a call without a deadline comes to the state of the call within
   pub plain_as : (at : At) (own : Grain Request Reply)
       → call_goes_on system (Plain at) (outcome_by (as_grain own))
       ≡ Plain (system.machine.goes_on at (outcome_by own))
@@ -146,6 +156,7 @@ module _ {At Request Reply Out Object : Type 0} (system : System At Request Repl
   plain_as at (Posted pid set) = refl
   plain_as at (Drained set) = refl
 
+  -- so does one with a deadline that has not slept
   pub within_as : (until : Deadline) (at : At) (own : Grain Request Reply)
       → goes_within system.machine until at (outcome_by (as_grain own))
       ≡ system.machine.goes_on at (outcome_by own)
@@ -162,6 +173,7 @@ module _ {At Request Reply Out Object : Type 0} (system : System At Request Repl
   abbrev pub failed_as : Option Fault → Grain Request Reply → Option Fault
   failed_as failed own = failed_by failed (outcome_by own)
 
+  -- and one that waits, which notes how its sleep ended
   pub waits_as : (until : Deadline) (at : At) (failed : Option Fault) (own : Grain Request Reply)
       → waits_on system.machine until at failed (outcome_by (as_grain own))
       ≡ Waits (system.machine.goes_on at (outcome_by own)) (failed_as failed own)
@@ -179,6 +191,7 @@ module _ {At Request Reply Out Object : Type 0} (system : System At Request Repl
   over_as (Next.Over answer) over = tt
   over_as other over = absurd over
 
+  -- a call that sleeps there sleeps within
   pub sleeps_as : (does : Next Request Out) (rendez : RendezId) (number : ℕ)
       → as_next does ≡ Next.Sleep rendez number → does ≡ Next.Sleep rendez number
   sleeps_as (Next.Sleep rendez number) other_rendez other_number is =

@@ -39,7 +39,7 @@ use Rattle.timed_machines.specs.TimedCalls.{TimedCall, TimedObject, TimedOut, ca
 use Rattle.timed_machines.specs.TimedCalls.{timed_calls}
 use Rattle.timed_machines.specs.TimedCalls.TimedCall.{Plain, Tick, Until}
 use Rattle.timed_machines.specs.TimedCalls.TimedOut.{FromCall}
-use Rattle.timed_machines.specs.TimedEnds.{BeginsTimed, IsTick, timed_goes}
+use Rattle.timed_machines.specs.TimedEnds.{BeginsTimed, IsTick, MayHaveDeadline, timed_goes}
 use Rattle.timed_machines.proofs.PositionLemmas.NoteComes.{IsOwed, IsPending}
 use Rattle.timed_machines.proofs.InnerMoves.{as_next, over_as, sleeps_as}
 use Rattle.timed_machines.proofs.MoveLemmas as moves
@@ -51,22 +51,28 @@ module _ {At Request Reply Out Object : Type 0} (system : System At Request Repl
     (WaitsIn : ℕ → At → RendezId → Type 0) (Own : ℕ → RendezId → Type 0)
     (Holds : Coarse system → Type 0)
     (invariant : Invariant system (λ object at. goes object at ≡ true) BeginsBy Own Holds)
-    (keeps : KeepsNotes system.machine)
+    (keeps : KeepsNotes system.machine (MayHaveDeadline system BeginsBy WaitsIn))
     (own_rendez : (pid : ℕ) (at : At) (rendez : RendezId) → pid < procs system
     → BeginsBy pid at → WaitsIn pid at rendez → Own pid rendez × (rendez.0 < system.rendez)) where
   abbrev timed : System (TimedCall At Out) (TimedRequest Request) (TimedReply Reply)
       (TimedOut Out) (TimedObject Object)
   timed = timed_calls system
 
+  -- the calls that may have a deadline
+  abbrev Starts : At → Type 0
+  Starts = MayHaveDeadline system BeginsBy WaitsIn
+
   abbrev does_at : At → Next Request Out
   does_at = system.machine.does
 
+  -- what holds of a position, with the calls within
   abbrev pub Fine : Coarse timed → Type 0
-  Fine p = positions.Fine system Own Holds p
+  Fine p = positions.Fine system Own Starts Holds p
 
   abbrev Goes : Object → At → Type 0
   Goes object at = goes object at ≡ true
 
+  -- its object lets a call go on, or the note of a tick does
   abbrev pub TimedGoes : TimedObject Object → TimedCall At Out → Type 0
   TimedGoes s at = timed_goes system goes s at ≡ true
 
@@ -107,16 +113,20 @@ module _ {At Request Reply Out Object : Type 0} (system : System At Request Repl
         states_sized = refl;
         notes_sized = length-replicate (procs timed) no_notes ∙ as_many;
         timers_sized = length-replicate (procs system) timer.Unset;
-        show = λ pid low. subst (λ (s : TimedCall At Out). positions.IsShown system Own Holds s
+        show = λ pid low. subst (λ
+            (s : TimedCall At Out). positions.IsShown system Own Starts Holds s
             (start_of system pid)) (sym (start_is pid)) refl;
-        mine = λ pid low. subst (positions.IsMine system Own Holds pid) (sym (start_is pid)) tt;
+        mine = λ pid low. subst (positions.IsMine system Own Starts Holds pid) (sym
+            (start_is pid)) tt;
         own_timer = λ pid low. subst (λ (s : TimedCall At Out).
-            positions.IsTimerOf system Own Holds pid s
-            (positions.timer_at system Own Holds (coarse_of timed []) pid)) (sym (start_is pid))
+            positions.IsTimerOf system Own Starts Holds pid s
+            (positions.timer_at system Own Starts Holds (coarse_of timed []) pid)) (sym
+            (start_is pid))
             (get_or-replicate_same (procs system) pid timer.Unset);
         told = λ pid low. subst (λ (s : TimedCall At Out).
-            positions.IsTold system Own Holds (coarse_of timed []) pid s
-            (positions.timer_at system Own Holds (coarse_of timed []) pid)) (sym (start_is pid))
+            positions.IsTold system Own Starts Holds (coarse_of timed []) pid s
+            (positions.timer_at system Own Starts Holds (coarse_of timed []) pid)) (sym
+            (start_is pid))
             tt;
       }
 
@@ -146,7 +156,7 @@ module _ {At Request Reply Out Object : Type 0} (system : System At Request Repl
   waits_on until Next.Drain over = over
 
   ended_within : (s : TimedCall At Out) (call : At) → HasEnded (call_does system s)
-      → positions.IsShown system Own Holds s call → HasEnded (does_at call)
+      → positions.IsShown system Own Starts Holds s call → HasEnded (does_at call)
   ended_within (Plain at) call over show =
       subst (λ (a : At). HasEnded (does_at a)) (sym show) (over_as system (does_at at) over)
   ended_within (Until until (Begins at)) call over show =
@@ -160,8 +170,9 @@ module _ {At Request Reply Out Object : Type 0} (system : System At Request Repl
   ended_within (Until until (Over out)) call over show = show
   ended_within (Tick now at) call over show = show
 
+  -- the timer of a process that has ended is not set
   pub ended_timer : (pid : ℕ) (s : TimedCall At Out) (t : Timer) → HasEnded (call_does system s)
-      → positions.IsTimerOf system Own Holds pid s t → t ≡ timer.Unset
+      → positions.IsTimerOf system Own Starts Holds pid s t → t ≡ timer.Unset
   ended_timer pid (Until until (Waits at failed)) t over is =
       absurd (waits_on until (does_at at) over)
   ended_timer pid (Plain at) t over is = is
@@ -173,7 +184,7 @@ module _ {At Request Reply Out Object : Type 0} (system : System At Request Repl
   ended_timer pid (Tick now at) t over is = is
 
   -- who is to tell has not ended
-  tells_on : (pid : ℕ) (s : TimedCall At Out) → positions.IsToTell system Own Holds pid s
+  tells_on : (pid : ℕ) (s : TimedCall At Out) → positions.IsToTell system Own Starts Holds pid s
       → HasEnded (call_does system s) → ⊥
   tells_on pid (Tick now (Telling count to)) tells over = over
   tells_on pid s tells over = absurd tells
@@ -181,7 +192,7 @@ module _ {At Request Reply Out Object : Type 0} (system : System At Request Repl
   module _ (p : Coarse timed) (fine : Fine p) (pid : ℕ) (low : pid < procs system)
       (ended : HasEnded (call_does system (at_of timed p pid))) where
     abbrev call : At
-    call = positions.state_at system Own Holds fine.states pid
+    call = positions.state_at system Own Starts Holds fine.states pid
 
     over : HasEnded (does_at call)
     over = ended_within (at_of timed p pid) call ended (fine.show pid low)
@@ -195,18 +206,21 @@ module _ {At Request Reply Out Object : Type 0} (system : System At Request Repl
     abbrev begun_at : TimedCall At Out → Coarse timed
     begun_at next = begun timed p pid next
 
-    comes_on : (next : TimedCall At Out) (other : ℕ) → positions.NoteComes system Own Holds p other
-        → positions.NoteComes system Own Holds (begun_at next) other
+    comes_on : (next : TimedCall At Out) (other : ℕ)
+        → positions.NoteComes system Own Starts Holds p other
+        → positions.NoteComes system Own Starts Holds (begun_at next) other
     comes_on next other (IsPending has) = IsPending has
     comes_on next other (IsOwed ticker there tells) =
-        IsOwed ticker there (subst (positions.IsToTell system Own Holds other)
+        IsOwed ticker there (subst (positions.IsToTell system Own Starts Holds other)
         (sym (others_now p.states pid long next (timed.none) ticker
         (λ same. tells_on other (at_of timed p pid)
-        (subst (λ (q : ℕ). positions.IsToTell system Own Holds other (at_of timed p q)) same tells) ended))) tells)
+        (subst (λ (q : ℕ). positions.IsToTell system Own Starts Holds other
+        (at_of timed p q)) same tells)
+        ended))) tells)
 
     told_on : (next : TimedCall At Out) (other : ℕ) (s : TimedCall At Out) (t : Timer)
-        → positions.IsTold system Own Holds p other s t
-        → positions.IsTold system Own Holds (begun_at next) other s t
+        → positions.IsTold system Own Starts Holds p other s t
+        → positions.IsTold system Own Starts Holds (begun_at next) other s t
     told_on next other (Until until (Waits at failed)) timer.Expired (inl has) = inl has
     told_on next other (Until until (Waits at failed)) timer.Expired (inr comes) =
         inr (comes_on next other comes)
@@ -216,12 +230,12 @@ module _ {At Request Reply Out Object : Type 0} (system : System At Request Repl
 
     -- a call that begins, by the state of the call within
     begins_as : (next : TimedCall At Out) (state : At)
-        → Holds (positions.shown system Own Holds (begun_at next)
+        → Holds (positions.shown system Own Starts Holds (begun_at next)
         (slice_set fine.states pid state))
-        → positions.IsShown system Own Holds next state
-        → positions.IsMine system Own Holds pid next
-        → positions.IsTimerOf system Own Holds pid next timer.Unset
-        → positions.IsTold system Own Holds (begun_at next) pid next timer.Unset
+        → positions.IsShown system Own Starts Holds next state
+        → positions.IsMine system Own Starts Holds pid next
+        → positions.IsTimerOf system Own Starts Holds pid next timer.Unset
+        → positions.IsTold system Own Starts Holds (begun_at next) pid next timer.Unset
         → Fine (begun_at next)
     begins_as next state inner show mine of_timer told =
         record {
@@ -232,42 +246,45 @@ module _ {At Request Reply Out Object : Type 0} (system : System At Request Repl
           notes_sized = fine.notes_sized;
           timers_sized = fine.timers_sized;
           show = λ q there. each p.states pid long next (timed.none)
-              (λ other s. other < procs system → positions.IsShown system Own Holds s
-              (positions.state_at system Own Holds (slice_set fine.states pid state) other))
-              (λ within. subst (positions.IsShown system Own Holds next)
+              (λ other s. other < procs system → positions.IsShown system Own Starts Holds s
+              (positions.state_at system Own Starts Holds (slice_set fine.states pid state) other))
+              (λ within. subst (positions.IsShown system Own Starts Holds next)
               (sym (own_now fine.states pid long_within state system.none)) show)
               (λ other differs within.
-              subst (positions.IsShown system Own Holds (at_of timed p other))
+              subst (positions.IsShown system Own Starts Holds (at_of timed p other))
               (sym (others_now fine.states pid long_within state system.none other differs))
               (fine.show other within)) q there;
           mine = λ q there. each p.states pid long next (timed.none)
-              (λ other s. other < procs system → positions.IsMine system Own Holds other s)
+              (λ other s. other < procs system → positions.IsMine system Own Starts Holds other s)
               (λ within. mine) (λ other differs within. fine.mine other within) q there;
           own_timer = λ q there. each p.states pid long next (timed.none)
-              (λ other s. other < procs system → positions.IsTimerOf system Own Holds other s
-              (positions.timer_at system Own Holds p other))
-              (λ within. subst (positions.IsTimerOf system Own Holds pid next) (sym unset)
+              (λ other s. other < procs system → positions.IsTimerOf system Own Starts Holds other s
+              (positions.timer_at system Own Starts Holds p other))
+              (λ within. subst (positions.IsTimerOf system Own Starts Holds pid next) (sym unset)
               of_timer)
               (λ other differs within. fine.own_timer other within) q there;
           told = λ q there. each p.states pid long next (timed.none)
               (λ other s. other < procs system
-              → positions.IsTold system Own Holds (begun_at next) other s
-              (positions.timer_at system Own Holds p other))
-              (λ within. subst (positions.IsTold system Own Holds (begun_at next) pid next)
+              → positions.IsTold system Own Starts Holds (begun_at next) other s
+              (positions.timer_at system Own Starts Holds p other))
+              (λ within. subst (positions.IsTold system Own Starts Holds (begun_at next) pid next)
               (sym unset) told)
               (λ other differs within. told_on next other (at_of timed p other)
-              (positions.timer_at system Own Holds p other) (fine.told other within)) q there;
+              (positions.timer_at system Own Starts Holds p other)
+              (fine.told other within)) q there;
         }
       where
-        unset : positions.timer_at system Own Holds p pid ≡ timer.Unset
+        unset : positions.timer_at system Own Starts Holds p pid ≡ timer.Unset
         unset =
-            ended_timer pid (at_of timed p pid) (positions.timer_at system Own Holds p pid) ended
+            ended_timer pid (at_of timed p pid)
+            (positions.timer_at system Own Starts Holds p pid) ended
             (fine.own_timer pid low)
 
     begins_within : (at : At) → BeginsBy pid at
-        → Holds (positions.shown system Own Holds p (slice_set fine.states pid at))
+        → Holds (positions.shown system Own Starts Holds p (slice_set fine.states pid at))
     begins_within at begins =
-        invariant.begins (positions.shown system Own Holds p fine.states) pid at fine.inner low over
+        invariant.begins (positions.shown system Own Starts Holds p fine.states) pid at fine.inner
+        low over
         begins
 
     begins_so : (next : TimedCall At Out) → BeginsTimed system BeginsBy WaitsIn pid next
@@ -276,8 +293,15 @@ module _ {At Request Reply Out Object : Type 0} (system : System At Request Repl
         begins_as (Plain at) at (begins_within at begins) refl tt refl tt
     begins_so (Until until (Begins at)) begins =
         let row = own_rendez pid at until.rendez low begins.0 begins.2 in
-        begins_as (Until until (Begins at)) at (begins_within at begins.0) refl
-        (record { deadline = begins.1; own = row.0; there = row.1 }, tt) refl tt
+        begins_as (Until until (Begins at)) at (begins_within at begins.0) refl (
+          record { deadline = begins.1; own = row.0; there = row.1 },
+          record {
+            start = at;
+            before = 0;
+            starts = (pid, until.rendez, begins.0, begins.2);
+            began = refl;
+          },
+        ) refl tt
     begins_so (Until until (Waits at failed)) begins = absurd begins
     begins_so (Until until (Awaits notes ending)) begins = absurd begins
     begins_so (Until until (Drains notes ending)) begins = absurd begins
@@ -285,7 +309,7 @@ module _ {At Request Reply Out Object : Type 0} (system : System At Request Repl
     begins_so (Until until (Over out)) begins = absurd begins
     begins_so (Tick now at) begins =
         begins_as (Tick now at) call (subst (λ (l : List At).
-        Holds (positions.shown system Own Holds p l))
+        Holds (positions.shown system Own Starts Holds p l))
         (sym (set-get_or fine.states pid system.none)) fine.inner) over tt refl tt
 
   -- ---- who sleeps
@@ -355,21 +379,23 @@ module _ {At Request Reply Out Object : Type 0} (system : System At Request Repl
 
   module _ (p : Coarse timed) (fine : Fine p) where
     abbrev within : Coarse system
-    within = positions.shown system Own Holds p fine.states
+    within = positions.shown system Own Starts Holds p fine.states
 
     -- the call within of a process that sleeps in it
     abbrev call_of : ℕ → At
-    call_of pid = positions.state_at system Own Holds fine.states pid
+    call_of pid = positions.state_at system Own Starts Holds fine.states pid
 
     show_of : (pid : ℕ) → pid < procs system → (s : TimedCall At Out) → at_of timed p pid ≡ s
-        → positions.IsShown system Own Holds s (call_of pid)
+        → positions.IsShown system Own Starts Holds s (call_of pid)
     show_of pid low s is =
-        subst (λ (c : TimedCall At Out). positions.IsShown system Own Holds c (call_of pid)) is
+        subst (λ (c : TimedCall At Out). positions.IsShown system Own Starts Holds c
+        (call_of pid)) is
         (fine.show pid low)
 
     mine_of : (pid : ℕ) → pid < procs system → (s : TimedCall At Out) → at_of timed p pid ≡ s
-        → positions.IsMine system Own Holds pid s
-    mine_of pid low s is = subst (positions.IsMine system Own Holds pid) is (fine.mine pid low)
+        → positions.IsMine system Own Starts Holds pid s
+    mine_of pid low s is = subst (positions.IsMine system Own Starts Holds pid) is
+        (fine.mine pid low)
 
     in_row : (pid : ℕ) (rendez : RendezId) (number : ℕ) → pid < procs system
         → Sleeps rendez number (at_of timed p pid)
@@ -416,7 +442,8 @@ module _ {At Request Reply Out Object : Type 0} (system : System At Request Repl
         waits on (ForNote until notes ending is rendez_is number_is) =
             inl (show_of pid low (Until until (Awaits notes ending)) is)
 
-        ticks : (s : TimedCall At Out) → IsTick s → positions.IsShown system Own Holds s (call_of pid)
+        ticks : (s : TimedCall At Out) → IsTick s
+            → positions.IsShown system Own Starts Holds s (call_of pid)
             → HasEnded (does_at (call_of pid))
         ticks (Tick now at) tick show = show
         ticks s tick show = absurd tick
@@ -432,17 +459,17 @@ module _ {At Request Reply Out Object : Type 0} (system : System At Request Repl
 
     -- who is to tell goes on
     tells_now : IsStuckBut timed IsTick p → (pid ticker : ℕ) → ticker < procs system
-        → positions.IsToTell system Own Holds pid (at_of timed p ticker) → ⊥
+        → positions.IsToTell system Own Starts Holds pid (at_of timed p ticker) → ⊥
     tells_now stuck pid ticker there tells = of (stuck ticker (many ticker there))
       where
         asleep : (rendez : RendezId) (number : ℕ) (s : TimedCall At Out)
-            → positions.IsToTell system Own Holds pid s
+            → positions.IsToTell system Own Starts Holds pid s
             → call_does system s ≡ Next.Sleep rendez number → ⊥
         asleep rendez number (Tick now (Telling count to)) to_tell is = cc
         asleep rendez number s to_tell is = absurd to_tell
 
         asks : (request : TimedRequest Request) (s : TimedCall At Out)
-            → positions.IsToTell system Own Holds pid s
+            → positions.IsToTell system Own Starts Holds pid s
             → call_does system s ≡ Next.Ask request → ⊥
         asks request (Tick now (Telling count to)) to_tell is = cc
         asks request s to_tell is = absurd to_tell
@@ -454,8 +481,9 @@ module _ {At Request Reply Out Object : Type 0} (system : System At Request Repl
         of (inr (inr idly)) = asks idly.1.0 (at_of timed p ticker) tells idly.1.1
 
     -- so nobody waits whom its object lets go on, and nobody awaits the note of a tick
-    none_waits : (pid : ℕ) → IsStuckBut timed IsTick p → pid < procs system → (on : WaitsOn timed p pid)
-        → TimedGoes p.object (at_of timed p pid) → Sleeps on.rendez on.number (at_of timed p pid)
+    none_waits : (pid : ℕ) → IsStuckBut timed IsTick p → pid < procs system
+        → (on : WaitsOn timed p pid) → TimedGoes p.object (at_of timed p pid)
+        → Sleeps on.rendez on.number (at_of timed p pid)
         → ⊥
     none_waits pid stuck low on goes_on (InPlain at is does) =
         invariant.due within pid fine.inner (stuck_within stuck) low
@@ -480,10 +508,10 @@ module _ {At Request Reply Out Object : Type 0} (system : System At Request Repl
         (subst (Goes p.object.device) (sym (show_of pid low (Until until (Waits at failed)) is))
         (subst (TimedGoes p.object) is goes_on))
     none_waits pid stuck low on goes_on (ForNote until notes ending is rendez_is number_is) =
-        of (subst (λ (s : TimedCall At Out). positions.IsTold system Own Holds p pid s
-        (positions.timer_at system Own Holds p pid)) is (fine.told pid low))
+        of (subst (λ (s : TimedCall At Out). positions.IsTold system Own Starts Holds p pid s
+        (positions.timer_at system Own Starts Holds p pid)) is (fine.told pid low))
       where
-        of : positions.NoteComes system Own Holds p pid → ⊥
+        of : positions.NoteComes system Own Starts Holds p pid → ⊥
         of (IsPending has) =
             let both = sym on.none ∙ holds_some (notes_of timed p pid) has in false≢true both
         of (IsOwed ticker there tells) = tells_now stuck pid ticker there tells
@@ -607,13 +635,14 @@ module _ {At Request Reply Out Object : Type 0} (system : System At Request Repl
         (sleeps_on until notes ending (mine_of pid low (Until until (Awaits notes ending)) is).1))
 
   -- so the system with timers shows it too
-  pub timed_invariant : WholeInvariant timed TimedGoes IsTick (BeginsTimed system BeginsBy WaitsIn) Own
-      Fine
+  pub timed_invariant : WholeInvariant timed TimedGoes IsTick
+      (BeginsTimed system BeginsBy WaitsIn) Own Fine
   timed_invariant =
       record {
         rest = rest_so;
         first = at_start;
-        moves = λ p move fine low may. moves.fine_more system Goes BeginsBy Own Holds invariant
+        moves = λ p move fine low may. moves.fine_more system Goes BeginsBy Own Starts Holds
+            invariant
             keeps p fine move.by (few move.by low) move.grain may;
         begins = λ p pid next fine low ended begins. begins_so p fine pid (few pid low) ended next
             begins;

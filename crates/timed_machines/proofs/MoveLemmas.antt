@@ -24,8 +24,9 @@ use Rattle.timer_list.specs.Timing.{notes_of as ending_notes}
 use Rattle.waiting.specs.declared.wait.WaitEnd.{WaitEnd}
 use Rattle.call_machines.specs.Devices.{Invariant}
 use Rattle.call_machines.specs.Ends.{HasEnded}
-use Rattle.call_machines.specs.Grain.{Coarse, Grain, IsRefusal, at_of, levels_by, moved, notes_after}
-use Rattle.call_machines.specs.Grain.{notes_by, notes_of, object_with, outcome_by, receiver}
+use Rattle.call_machines.specs.Grain.{Coarse, Grain, IsRefusal, at_of, levels_by, moved}
+use Rattle.call_machines.specs.Grain.{notes_after, notes_by, notes_of, object_with, outcome_by}
+use Rattle.call_machines.specs.Grain.{receiver}
 use Rattle.call_machines.specs.Grain.Grain.{Drained, Heard, Noted, Posted, Refused, Returned, Went}
 use Rattle.call_machines.specs.Grain.Grain.{Woken}
 use Rattle.call_machines.specs.Machine.{Next, Outcome, next_with}
@@ -37,16 +38,17 @@ use Rattle.timer_machines.specs.Requests.TimedReply.{FromTimers}
 use Rattle.timer_machines.specs.Requests.TimedRequest.{ToTimers}
 use Rattle.timer_machines.specs.TickMachine.{TickState, asks_on, expired, tells}
 use Rattle.timer_machines.specs.TickMachine.TickState.{Asking, Telling, Ticked}
-use Rattle.timer_machines.specs.TimedMachines.{Deadline, TimedState, begins_on, begins_with, cancelled}
-use Rattle.timer_machines.specs.TimedMachines.{ended_with, ending_at, ending_of}
-use Rattle.timer_machines.specs.TimedMachines.{goes_within, is_expired, looked, waits_on, waits_with}
+use Rattle.timer_machines.specs.TimedMachines.{Deadline, TimedState, begins_on, begins_with}
+use Rattle.timer_machines.specs.TimedMachines.{cancelled, ended_with, ending_at, ending_of}
+use Rattle.timer_machines.specs.TimedMachines.{goes_within, is_expired, looked, waits_on}
+use Rattle.timer_machines.specs.TimedMachines.{waits_with}
 use Rattle.timer_machines.specs.TimedMachines.{timed_does, with_notes}
 use Rattle.timer_list.specs.declared.limits.TheConstants.{LAST_THRESHOLD}
 use Rattle.timer_machines.specs.TimedMachines.TimedState.{Awaits, Begins, Drains, Over, PutsBack}
 use Rattle.timer_machines.specs.TimedMachines.TimedState.{Waits}
 use Rattle.timed_machines.specs.NotesKept.{IsAsleep, KeepsNotes}
-use Rattle.timed_machines.specs.TimedCalls.{TimedCall, TimedObject, TimedOut, call_does, call_goes_on}
-use Rattle.timed_machines.specs.TimedCalls.{timed_calls}
+use Rattle.timed_machines.specs.TimedCalls.{TimedCall, TimedObject, TimedOut, call_does}
+use Rattle.timed_machines.specs.TimedCalls.{call_goes_on, timed_calls}
 use Rattle.timed_machines.specs.TimedCalls.TimedCall.{Plain, Tick, Until}
 use Rattle.timed_machines.specs.TimedCalls.TimedOut.{FromCall}
 use Rattle.timed_machines.specs.TimedEnds.{EndedByTick}
@@ -62,9 +64,10 @@ use Rattle.timed_machines.proofs.TimerFacts.Expires.{FindsNone, TakesOne}
 
 module _ {At Request Reply Out Object : Type 0} (system : System At Request Reply Out Object)
     (Goes : Object → At → Type 0) (BeginsBy : ℕ → At → Type 0) (Own : ℕ → RendezId → Type 0)
-    (Holds : Coarse system → Type 0) (invariant : Invariant system Goes BeginsBy Own Holds)
-    (keeps : KeepsNotes system.machine) (p : Coarse (timed_calls system))
-    (fine : positions.Fine system Own Holds p) (m : ℕ) (low : m < procs system) where
+    (Starts : At → Type 0) (Holds : Coarse system
+    → Type 0) (invariant : Invariant system Goes BeginsBy Own Holds)
+    (keeps : KeepsNotes system.machine Starts) (p : Coarse (timed_calls system))
+    (fine : positions.Fine system Own Starts Holds p) (m : ℕ) (low : m < procs system) where
   abbrev timed : System (TimedCall At Out) (TimedRequest Request) (TimedReply Reply)
       (TimedOut Out) (TimedObject Object)
   timed = timed_calls system
@@ -74,39 +77,40 @@ module _ {At Request Reply Out Object : Type 0} (system : System At Request Repl
 
   -- the call within of the process that moves
   abbrev call : At
-  call = positions.state_at system Own Holds fine.states m
+  call = positions.state_at system Own Starts Holds fine.states m
 
   abbrev own_timer : Timer
-  own_timer = positions.timer_at system Own Holds p m
+  own_timer = positions.timer_at system Own Starts Holds p m
 
-  abbrev now_at : positions.TimedNext system Own Holds → TimedCall At Out
-      → positions.TimedGrain system Own Holds → Coarse timed
-  now_at does now grain = positions.moved_so system Own Holds p m does now grain
+  abbrev now_at : positions.TimedNext system Own Starts Holds → TimedCall At Out
+      → positions.TimedGrain system Own Starts Holds → Coarse timed
+  now_at does now grain = positions.moved_so system Own Starts Holds p m does now grain
 
-  abbrev Settles : positions.TimedNext system Own Holds → TimedCall At Out
-      → positions.TimedGrain system Own Holds → Type 0
-  Settles does now grain = positions.Settled system Own Holds p fine m does now grain
+  abbrev Settles : positions.TimedNext system Own Starts Holds → TimedCall At Out
+      → positions.TimedGrain system Own Starts Holds → Type 0
+  Settles does now grain = positions.Settled system Own Starts Holds p fine m does now grain
 
   -- the process may make this move
-  abbrev MayMove : positions.TimedGrain system Own Holds → Type 0
+  abbrev MayMove : positions.TimedGrain system Own Starts Holds → Type 0
   MayMove grain =
       MayLoosely timed p.object (notes_of timed p m) (call_does system (at_of timed p m)) grain
 
-  abbrev MayDo : positions.TimedNext system Own Holds → positions.TimedGrain system Own Holds
+  abbrev MayDo : positions.TimedNext system Own Starts Holds
+      → positions.TimedGrain system Own Starts Holds
       → Type 0
   MayDo does grain = MayLoosely timed p.object (notes_of timed p m) does grain
 
   -- a move that changes at most the timer of its process
-  changes : (does : positions.TimedNext system Own Holds) (now : TimedCall At Out)
-      (grain : positions.TimedGrain system Own Holds) (t : Timer) → MayMove grain
+  changes : (does : positions.TimedNext system Own Starts Holds) (now : TimedCall At Out)
+      (grain : positions.TimedGrain system Own Starts Holds) (t : Timer) → MayMove grain
       → IsChange p.object.timers (object_with timed p.object grain).timers m t
       → (state : At)
-      → Holds (positions.shown system Own Holds (now_at does now grain)
+      → Holds (positions.shown system Own Starts Holds (now_at does now grain)
       (slice_set fine.states m state))
-      → positions.IsShown system Own Holds now state
-      → positions.IsMine system Own Holds m now
-      → positions.IsTimerOf system Own Holds m now t
-      → positions.IsTold system Own Holds (now_at does now grain) m now t
+      → positions.IsShown system Own Starts Holds now state
+      → positions.IsMine system Own Starts Holds m now
+      → positions.IsTimerOf system Own Starts Holds m now t
+      → positions.IsTold system Own Starts Holds (now_at does now grain) m now t
       → Settles does now grain
   changes does now grain t may change state inner show mine of_timer told =
       record {
@@ -115,31 +119,32 @@ module _ {At Request Reply Out Object : Type 0} (system : System At Request Repl
         show = show;
         mine = mine;
         timers_sized = change.sized ∙ fine.timers_sized;
-        own_timer = subst (positions.IsTimerOf system Own Holds m now) (sym change.own) of_timer;
-        told = subst (positions.IsTold system Own Holds (now_at does now grain) m now)
+        own_timer = subst (positions.IsTimerOf system Own Starts Holds m now)
+            (sym change.own) of_timer;
+        told = subst (positions.IsTold system Own Starts Holds (now_at does now grain) m now)
             (sym change.own) told;
         others_timer = λ other differs within.
-            subst (positions.IsTimerOf system Own Holds other (at_of timed p other))
+            subst (positions.IsTimerOf system Own Starts Holds other (at_of timed p other))
             (sym (change.others other differs)) (fine.own_timer other within);
         others_told = λ other differs within.
-            subst (positions.IsTold system Own Holds (now_at does now grain) other
+            subst (positions.IsTold system Own Starts Holds (now_at does now grain) other
             (at_of timed p other)) (sym (change.others other differs))
-            (positions.told_on system Own Holds p fine m low grain may does now other within
-            (inl differs) (at_of timed p other) (positions.timer_at system Own Holds p other)
+            (positions.told_on system Own Starts Holds p fine m low grain may does now other within
+            (inl differs) (at_of timed p other) (positions.timer_at system Own Starts Holds p other)
             (fine.told other within));
       }
 
   -- a move that changes no timer
-  same_timers : (does : positions.TimedNext system Own Holds) (now : TimedCall At Out)
-      (grain : positions.TimedGrain system Own Holds) → MayMove grain
+  same_timers : (does : positions.TimedNext system Own Starts Holds) (now : TimedCall At Out)
+      (grain : positions.TimedGrain system Own Starts Holds) → MayMove grain
       → (object_with timed p.object grain).timers ≡ p.object.timers
       → (state : At)
-      → Holds (positions.shown system Own Holds (now_at does now grain)
+      → Holds (positions.shown system Own Starts Holds (now_at does now grain)
       (slice_set fine.states m state))
-      → positions.IsShown system Own Holds now state
-      → positions.IsMine system Own Holds m now
-      → positions.IsTimerOf system Own Holds m now own_timer
-      → positions.IsTold system Own Holds (now_at does now grain) m now own_timer
+      → positions.IsShown system Own Starts Holds now state
+      → positions.IsMine system Own Starts Holds m now
+      → positions.IsTimerOf system Own Starts Holds m now own_timer
+      → positions.IsTold system Own Starts Holds (now_at does now grain) m now own_timer
       → Settles does now grain
   same_timers does now grain may same =
       changes does now grain own_timer may
@@ -151,7 +156,7 @@ module _ {At Request Reply Out Object : Type 0} (system : System At Request Repl
   -- its own move
   inner_moves : (own : Grain Request Reply) (at : At) (now : TimedCall At Out) → call ≡ at
       → MayLoosely system p.object.device (notes_of timed p m) (does_at at) own
-      → Holds (positions.shown system Own Holds
+      → Holds (positions.shown system Own Starts Holds
       (now_at (as_next system (does_at at)) now (as_grain system own))
       (slice_set fine.states m (system.machine.goes_on at (outcome_by own))))
   inner_moves own at now is may =
@@ -198,7 +203,7 @@ module _ {At Request Reply Out Object : Type 0} (system : System At Request Repl
                 (notes_by (notes_of timed p (receiver m own)) own);
             levels = levels_by p.levels (does_at a) own;
           })) is
-          (invariant.moves (positions.shown system Own Holds p fine.states)
+          (invariant.moves (positions.shown system Own Starts Holds p fine.states)
           (record { by = m; grain = own }) fine.inner low
           (subst (λ (a : At). MayLoosely system p.object.device (notes_of timed p m) (does_at a)
           own) (sym is) may))
@@ -218,7 +223,8 @@ module _ {At Request Reply Out Object : Type 0} (system : System At Request Repl
         notes = notes;
         levels = p.levels;
       })) (sym (set-get_or fine.states m system.none))
-      (invariant.later (positions.shown system Own Holds p fine.states) notes p.levels fine.inner
+      (invariant.later (positions.shown system Own Starts Holds p fine.states) notes p.levels
+      fine.inner
       (record { notes_are = long; levels_are = refl; rise = λ rendez. omega arith }))
 
   -- it is over as if it had returned these notes
@@ -249,7 +255,7 @@ module _ {At Request Reply Out Object : Type 0} (system : System At Request Repl
         notes = slice_set p.notes m (joined (notes_of timed p m) set);
         levels = levels_by p.levels (does_at a) (returned set);
       })) is
-      (invariant.moves (positions.shown system Own Holds p fine.states)
+      (invariant.moves (positions.shown system Own Starts Holds p fine.states)
       (record { by = m; grain = returned set }) fine.inner low (ap does_at is ∙ returns))))
       (record {
         notes_are = long ∙ sym (length-set p.notes m (joined (notes_of timed p m) set));
@@ -264,10 +270,10 @@ module _ {At Request Reply Out Object : Type 0} (system : System At Request Repl
   inner_settles : (own : Grain Request Reply) (at : At) (now : TimedCall At Out) → call ≡ at
       → MayLoosely system p.object.device (notes_of timed p m) (does_at at) own
       → MayMove (as_grain system own)
-      → positions.IsShown system Own Holds now (system.machine.goes_on at (outcome_by own))
-      → positions.IsMine system Own Holds m now
-      → positions.IsTimerOf system Own Holds m now own_timer
-      → positions.IsTold system Own Holds
+      → positions.IsShown system Own Starts Holds now (system.machine.goes_on at (outcome_by own))
+      → positions.IsMine system Own Starts Holds m now
+      → positions.IsTimerOf system Own Starts Holds m now own_timer
+      → positions.IsTold system Own Starts Holds
       (now_at (as_next system (does_at at)) now (as_grain system own)) m now own_timer
       → Settles (as_next system (does_at at)) now (as_grain system own)
   inner_settles own at now is may may_move show mine of_timer told =
@@ -279,34 +285,34 @@ module _ {At Request Reply Out Object : Type 0} (system : System At Request Repl
   -- ---- a call without a deadline
 
   show_of : (s : TimedCall At Out) → at_of timed p m ≡ s
-      → positions.IsShown system Own Holds s call
+      → positions.IsShown system Own Starts Holds s call
   show_of s is =
-      subst (λ (c : TimedCall At Out). positions.IsShown system Own Holds c call) is
+      subst (λ (c : TimedCall At Out). positions.IsShown system Own Starts Holds c call) is
       (fine.show m low)
 
   mine_of : (s : TimedCall At Out) → at_of timed p m ≡ s
-      → positions.IsMine system Own Holds m s
-  mine_of s is = subst (positions.IsMine system Own Holds m) is (fine.mine m low)
+      → positions.IsMine system Own Starts Holds m s
+  mine_of s is = subst (positions.IsMine system Own Starts Holds m) is (fine.mine m low)
 
   timer_so : (s : TimedCall At Out) → at_of timed p m ≡ s
-      → positions.IsTimerOf system Own Holds m s own_timer
+      → positions.IsTimerOf system Own Starts Holds m s own_timer
   timer_so s is =
-      subst (λ (c : TimedCall At Out). positions.IsTimerOf system Own Holds m c own_timer) is
+      subst (λ (c : TimedCall At Out). positions.IsTimerOf system Own Starts Holds m c own_timer) is
       (fine.own_timer m low)
 
   told_of : (s : TimedCall At Out) → at_of timed p m ≡ s
-      → positions.IsTold system Own Holds p m s own_timer
+      → positions.IsTold system Own Starts Holds p m s own_timer
   told_of s is =
-      subst (λ (c : TimedCall At Out). positions.IsTold system Own Holds p m c own_timer) is
+      subst (λ (c : TimedCall At Out). positions.IsTold system Own Starts Holds p m c own_timer) is
       (fine.told m low)
 
-  module _ (grain : positions.TimedGrain system Own Holds) (may_move : MayMove grain) where
+  module _ (grain : positions.TimedGrain system Own Starts Holds) (may_move : MayMove grain) where
     plain_moves : (at : At) → at_of timed p m ≡ Plain at → MayDo (as_next system (does_at at)) grain
         → Settles (as_next system (does_at at))
         (call_goes_on system (Plain at) (outcome_by grain)) grain
     plain_moves at is may =
         let one = inner_of system p.object (notes_of timed p m) (does_at at) grain may in
-        subst (λ (g : positions.TimedGrain system Own Holds).
+        subst (λ (g : positions.TimedGrain system Own Starts Holds).
         Settles (as_next system (does_at at)) (call_goes_on system (Plain at) (outcome_by g)) g)
         (sym one.is)
         (subst (λ (now : TimedCall At Out). Settles (as_next system (does_at at)) now
@@ -317,13 +323,24 @@ module _ {At Request Reply Out Object : Type 0} (system : System At Request Repl
 
     -- ---- a call with a deadline that has not slept
 
+    -- one step more
+    begun_on : (at : At) (came : Outcome Reply) → positions.HasBegun system Own Starts Holds at
+        → positions.HasBegun system Own Starts Holds (system.machine.goes_on at came)
+    begun_on at came begun =
+        record {
+          start = begun.start;
+          before = suc begun.before;
+          starts = begun.starts;
+          began = record { between = at; before = begun.began; came = came; is = refl };
+        }
+
     begins_moves : (until : Deadline) (at : At) → at_of timed p m ≡ Until until (Begins at)
         → MayDo (as_next system (does_at at)) grain
         → Settles (as_next system (does_at at))
         (Until until (Begins (goes_within system.machine until at (outcome_by grain)))) grain
     begins_moves until at is may =
         let one = inner_of system p.object (notes_of timed p m) (does_at at) grain may in
-        subst (λ (g : positions.TimedGrain system Own Holds).
+        subst (λ (g : positions.TimedGrain system Own Starts Holds).
         Settles (as_next system (does_at at))
         (Until until (Begins (goes_within system.machine until at (outcome_by g)))) g)
         (sym one.is)
@@ -331,8 +348,10 @@ module _ {At Request Reply Out Object : Type 0} (system : System At Request Repl
         (as_grain system one.own)) (sym (within_as system until at one.own))
         (inner_settles one.own at
         (Until until (Begins (system.machine.goes_on at (outcome_by one.own))))
-        (show_of (Until until (Begins at)) is) one.may (subst MayMove one.is may_move) refl
-        ((mine_of (Until until (Begins at)) is).0, tt)
+        (show_of (Until until (Begins at)) is) one.may (subst MayMove one.is may_move) refl (
+          (mine_of (Until until (Begins at)) is).0,
+          begun_on at (outcome_by one.own) (mine_of (Until until (Begins at)) is).1,
+        )
         (timer_so (Until until (Begins at)) is) tt))
 
     -- what may come of a request of the timers
@@ -340,7 +359,7 @@ module _ {At Request Reply Out Object : Type 0} (system : System At Request Repl
         → grain ≡ Heard (ToTimers c) (FromTimers (timing.answer_to p.object.timers c))
     asks_timers c may = of grain may
       where
-        of : (g : positions.TimedGrain system Own Holds) → MayDo (Next.Ask (ToTimers c)) g
+        of : (g : positions.TimedGrain system Own Starts Holds) → MayDo (Next.Ask (ToTimers c)) g
             → g ≡ Heard (ToTimers c) (FromTimers (timing.answer_to p.object.timers c))
         of (Heard request reply) can =
             let same : request ≡ ToTimers c = (let is = can.0 in cc) in
@@ -363,7 +382,7 @@ module _ {At Request Reply Out Object : Type 0} (system : System At Request Repl
         → Settles (Next.Ask (ToTimers (Add until.seat until.pid until.moment)))
         (Until until (Waits at None)) grain
     adds until at rendez number is sleeps may =
-        subst (λ (g : positions.TimedGrain system Own Holds).
+        subst (λ (g : positions.TimedGrain system Own Starts Holds).
         Settles (Next.Ask (ToTimers c)) (Until until (Waits at None)) g) (sym heard)
         (changes (Next.Ask (ToTimers c)) (Until until (Waits at None))
         (Heard (ToTimers c) (FromTimers (timing.answer_to p.object.timers c)))
@@ -377,8 +396,10 @@ module _ {At Request Reply Out Object : Type 0} (system : System At Request Repl
         call (inner_stays same_notes same_long) (show_of (Until until (Begins at)) is) (
           mine.0,
           (
+            mine.1,
             (record {
               from = at;
+              begun = mine.1;
               times = 0;
               asleep = (rendez, number, sleeps);
               comes = refl;
@@ -394,7 +415,7 @@ module _ {At Request Reply Out Object : Type 0} (system : System At Request Repl
         heard : grain ≡ Heard (ToTimers c) (FromTimers (timing.answer_to p.object.timers c))
         heard = asks_timers c may
 
-        mine : positions.IsMine system Own Holds m (Until until (Begins at))
+        mine : positions.IsMine system Own Starts Holds m (Until until (Begins at))
         mine = mine_of (Until until (Begins at)) is
 
         seat_is : until.seat ≡ m
@@ -433,22 +454,24 @@ module _ {At Request Reply Out Object : Type 0} (system : System At Request Repl
     -- ---- a call with a deadline that waits
 
     -- one step more
-    slept_on : (at : At) (came : Outcome Reply) → positions.HasSlept system Own Holds at
-        → positions.HasSlept system Own Holds (system.machine.goes_on at came)
+    slept_on : (at : At) (came : Outcome Reply) → positions.HasSlept system Own Starts Holds at
+        → positions.HasSlept system Own Starts Holds (system.machine.goes_on at came)
     slept_on at came slept =
         record {
           from = slept.from;
+          begun = slept.begun;
           times = suc slept.times;
           asleep = slept.asleep;
           comes = record { between = at; before = slept.comes; came = came; is = refl };
         }
 
     failed_on : (at : At) (failed : Option Fault) (came : Outcome Reply)
-        → positions.HasFailed system Own Holds failed at
-        → positions.HasFailed system Own Holds failed (system.machine.goes_on at came)
+        → positions.HasFailed system Own Starts Holds failed at
+        → positions.HasFailed system Own Starts Holds failed (system.machine.goes_on at came)
     failed_on at (Some (fault.Interrupted set)) came ended =
         record {
           from = ended.from;
+          begun = ended.begun;
           times = suc ended.times;
           asleep = ended.asleep;
           comes = record { between = at; before = ended.comes; came = came; is = refl };
@@ -458,31 +481,40 @@ module _ {At Request Reply Out Object : Type 0} (system : System At Request Repl
 
     failed_so : (at : At) (failed : Option Fault) (own : Grain Request Reply)
         → MayLoosely system p.object.device (notes_of timed p m) (does_at at) own
-        → positions.HasFailed system Own Holds failed at
-        → positions.HasFailed system Own Holds (failed_as system failed own)
+        → positions.HasBegun system Own Starts Holds at
+        → positions.HasFailed system Own Starts Holds failed at
+        → positions.HasFailed system Own Starts Holds (failed_as system failed own)
         (system.machine.goes_on at (outcome_by own))
-    failed_so at failed (Heard request reply) may ended =
+    failed_so at failed (Heard request reply) may begun ended =
         failed_on at failed (Outcome.Replied reply) ended
-    failed_so at failed Went may ended = failed_on at failed Outcome.Went ended
-    failed_so at failed (Returned set) may ended = failed_on at failed Outcome.Went ended
-    failed_so at failed (Posted to set) may ended = failed_on at failed Outcome.Went ended
-    failed_so at failed (Drained set) may ended = failed_on at failed (Outcome.Took set) ended
-    failed_so at failed Woken may ended = tt
-    failed_so at failed (Noted set) may ended =
-        record { from = at; times = 0; asleep = (may.0, may.1, may.2); comes = refl }
-    failed_so at failed (Refused why) may ended = of why may.3
+    failed_so at failed Went may begun ended = failed_on at failed Outcome.Went ended
+    failed_so at failed (Returned set) may begun ended = failed_on at failed Outcome.Went ended
+    failed_so at failed (Posted to set) may begun ended = failed_on at failed Outcome.Went ended
+    failed_so at failed (Drained set) may begun ended = failed_on at failed (Outcome.Took set) ended
+    failed_so at failed Woken may begun ended = tt
+    failed_so at failed (Noted set) may begun ended =
+        record {
+          from = at;
+          begun = begun;
+          times = 0;
+          asleep = (may.0, may.1, may.2);
+          comes = refl;
+        }
+    failed_so at failed (Refused why) may begun ended = of why may.3
       where
         of : (w : Fault) → IsRefusal w
-            → positions.HasFailed system Own Holds (Some w)
+            → positions.HasFailed system Own Starts Holds (Some w)
             (system.machine.goes_on at (Outcome.Slept (Err w)))
         of (fault.Interrupted set) refusal = absurd refusal
         of w refusal = tt
 
     -- a call whose sleep the note of a tick ended does not sleep
-    note_awake : (at : At) (failed : Option Fault) → positions.HasFailed system Own Holds failed at
+    note_awake : (at : At) (failed : Option Fault)
+        → positions.HasFailed system Own Starts Holds failed at
         → EndedByTick failed → IsAsleep system.machine at → ⊥
     note_awake at (Some (fault.Interrupted set)) ended has asleep =
-        keeps.sleeps_no_more ended.from at set ended.times ended.asleep ended.comes asleep
+        keeps.sleeps_no_more ended.begun.start ended.from at set ended.begun.before ended.times
+        ended.begun.starts ended.begun.began ended.asleep ended.comes asleep
     note_awake at (Some other) ended has asleep = absurd has
     note_awake at None ended has asleep = absurd has
 
@@ -490,10 +522,11 @@ module _ {At Request Reply Out Object : Type 0} (system : System At Request Repl
     told_so : (until : Deadline) (at : At) (failed : Option Fault) (own : Grain Request Reply)
         → grain ≡ as_grain system own
         → MayLoosely system p.object.device (notes_of timed p m) (does_at at) own
-        → positions.HasSlept system Own Holds at → positions.HasFailed system Own Holds failed at
+        → positions.HasSlept system Own Starts Holds at
+        → positions.HasFailed system Own Starts Holds failed at
         → (t : Timer)
-        → positions.IsTold system Own Holds p m (Until until (Waits at failed)) t
-        → positions.IsTold system Own Holds
+        → positions.IsTold system Own Starts Holds p m (Until until (Waits at failed)) t
+        → positions.IsTold system Own Starts Holds
         (now_at (as_next system (does_at at))
         (Until until (Waits (system.machine.goes_on at (outcome_by own)) (failed_as system failed
         own))) grain) m
@@ -506,35 +539,38 @@ module _ {At Request Reply Out Object : Type 0} (system : System At Request Repl
         Told : Grain Request Reply → Type 0
         Told g =
             EndedByTick (failed_as system failed g)
-            ⊎ positions.NoteComes system Own Holds
+            ⊎ positions.NoteComes system Own Starts Holds
             (now_at (as_next system (does_at at))
             (Until until (Waits (system.machine.goes_on at (outcome_by own))
             (failed_as system failed own))) grain) m
 
         -- where the move takes no notes
         on : (g : Grain Request Reply) → grain ≡ as_grain system g
-            → positions.TakesNone system Own Holds p fine m low (as_grain system g)
+            → positions.TakesNone system Own Starts Holds p fine m low (as_grain system g)
             → (EndedByTick failed
             → EndedByTick (failed_as system failed g)) → Told g
         on g g_is takes has = of was
           where
-            of : EndedByTick failed ⊎ positions.NoteComes system Own Holds p m → Told g
+            of : EndedByTick failed ⊎ positions.NoteComes system Own Starts Holds p m → Told g
             of (inl note) = inl (has note)
             of (inr comes) =
-                inr (positions.comes_on system Own Holds p fine m low grain may_move _ _ m low
-                (inr (subst (positions.TakesNone system Own Holds p fine m low) (sym g_is) takes))
+                inr (positions.comes_on system Own Starts Holds p fine m low grain may_move _ _ m
+                low
+                (inr (subst (positions.TakesNone system Own Starts Holds p fine m low)
+                (sym g_is) takes))
                 comes)
 
         noted : (set : NoteSet) → set ≡ notes_of timed p m → IsAsleep system.machine at
             → Told (Noted set)
         noted set is_all asleep = of was
           where
-            of : EndedByTick failed ⊎ positions.NoteComes system Own Holds p m
+            of : EndedByTick failed ⊎ positions.NoteComes system Own Starts Holds p m
                 → Told (Noted set)
             of (inl note) = absurd (note_awake at failed ended note asleep)
             of (inr (IsPending has)) = inl (ap (λ (n : NoteSet). holds n Expired) is_all ∙ has)
             of (inr (IsOwed ticker there tells)) =
-                inr (positions.owed_on system Own Holds p fine m low grain may_move _ _ m ticker
+                inr (positions.owed_on system Own Starts Holds p fine m low grain may_move _ _ m
+                ticker
                 low there tells)
 
         by : (g : Grain Request Reply) → grain ≡ as_grain system g
@@ -544,7 +580,8 @@ module _ {At Request Reply Out Object : Type 0} (system : System At Request Repl
         by (Returned set) g_is can = on (Returned set) g_is tt (λ note. note)
         by (Posted to set) g_is can = on (Posted to set) g_is tt (λ note. note)
         by (Drained set) g_is can =
-            absurd (keeps.takes_none slept.from at slept.times slept.asleep slept.comes can.0)
+            absurd (keeps.takes_none slept.begun.start slept.from at slept.begun.before slept.times
+            slept.begun.starts slept.begun.began slept.asleep slept.comes can.0)
         by Woken g_is can =
             on Woken g_is tt (λ note. absurd (note_awake at failed ended note
             (can.0, can.1, can.2)))
@@ -554,11 +591,12 @@ module _ {At Request Reply Out Object : Type 0} (system : System At Request Repl
             (can.0, can.1, can.2)))
 
     waits_moves : (until : Deadline) (at : At) (failed : Option Fault)
-        → at_of timed p m ≡ Until until (Waits at failed) → MayDo (as_next system (does_at at)) grain
+        → at_of timed p m ≡ Until until (Waits at failed)
+        → MayDo (as_next system (does_at at)) grain
         → Settles (as_next system (does_at at))
         (Until until (waits_on system.machine until at failed (outcome_by grain))) grain
     waits_moves until at failed is may =
-        subst (λ (g : positions.TimedGrain system Own Holds).
+        subst (λ (g : positions.TimedGrain system Own Starts Holds).
         Settles (as_next system (does_at at))
         (Until until (waits_on system.machine until at failed (outcome_by g))) g) (sym one.is)
         (subst (λ (s : TimedState At Out). Settles (as_next system (does_at at)) (Until until s)
@@ -567,15 +605,17 @@ module _ {At Request Reply Out Object : Type 0} (system : System At Request Repl
         refl (
           mine.0,
           (
-            slept_on at (outcome_by one.own) mine.1.0,
-            failed_so at failed one.own one.may mine.1.1,
+            begun_on at (outcome_by one.own) mine.1.0,
+            slept_on at (outcome_by one.own) mine.1.1,
+            failed_so at failed one.own one.may mine.1.0 mine.1.2,
           ),
         )
         (timer_so was is)
-        (subst (λ (g : positions.TimedGrain system Own Holds).
-        positions.IsTold system Own Holds (now_at (as_next system (does_at at)) gone g) m gone
+        (subst (λ (g : positions.TimedGrain system Own Starts Holds).
+        positions.IsTold system Own Starts Holds (now_at (as_next system
+        (does_at at)) gone g) m gone
         own_timer) one.is
-        (told_so until at failed one.own one.is one.may mine.1.0 mine.1.1 own_timer
+        (told_so until at failed one.own one.is one.may mine.1.1 mine.1.2 own_timer
         (told_of was is)))))
       where
         was : TimedCall At Out
@@ -590,7 +630,7 @@ module _ {At Request Reply Out Object : Type 0} (system : System At Request Repl
             Until until (Waits (system.machine.goes_on at (outcome_by one.own))
             (failed_as system failed one.own))
 
-        mine : positions.IsMine system Own Holds m was
+        mine : positions.IsMine system Own Starts Holds m was
         mine = mine_of was is
 
     -- ---- it cancels its timer
@@ -604,13 +644,13 @@ module _ {At Request Reply Out Object : Type 0} (system : System At Request Repl
       abbrev reply : TimerReply
       reply = timing.answer_to p.object.timers cancel
 
-      abbrev cancel_heard : positions.TimedGrain system Own Holds
+      abbrev cancel_heard : positions.TimedGrain system Own Starts Holds
       cancel_heard = Heard (ToTimers cancel) (FromTimers reply)
 
       heard_is : grain ≡ cancel_heard
       heard_is = asks_timers cancel may
 
-      own_mine : positions.IsMine system Own Holds m (Until until (Waits at failed))
+      own_mine : positions.IsMine system Own Starts Holds m (Until until (Waits at failed))
       own_mine = mine_of (Until until (Waits at failed)) is
 
       seat_is : until.seat ≡ m
@@ -638,10 +678,11 @@ module _ {At Request Reply Out Object : Type 0} (system : System At Request Repl
             notes = same_notes;
             levels = p.levels;
           })
-          → positions.IsShown system Own Holds now state
-          → positions.IsMine system Own Holds m now
-          → positions.IsTimerOf system Own Holds m now timer.Unset
-          → positions.IsTold system Own Holds (now_at (Next.Ask (ToTimers cancel)) now cancel_heard)
+          → positions.IsShown system Own Starts Holds now state
+          → positions.IsMine system Own Starts Holds m now
+          → positions.IsTimerOf system Own Starts Holds m now timer.Unset
+          → positions.IsTold system Own Starts Holds (now_at (Next.Ask
+          (ToTimers cancel)) now cancel_heard)
           m now timer.Unset
           → Settles (Next.Ask (ToTimers cancel)) now grain
       cancels_to now state inner show mine of_timer told =
@@ -660,7 +701,8 @@ module _ {At Request Reply Out Object : Type 0} (system : System At Request Repl
       comes_still : (answer : Result Out Fault) (now : TimedCall At Out)
           → is_expired reply ≡ true
           → holds (ending_notes (ended_with failed answer)) Expired ≡ false
-          → positions.NoteComes system Own Holds (now_at (Next.Ask (ToTimers cancel)) now cancel_heard) m
+          → positions.NoteComes system Own Starts Holds
+          (now_at (Next.Ask (ToTimers cancel)) now cancel_heard) m
       comes_still answer now expired_is none = by own_timer refl
         where
           has_none : (f : Option Fault) (a : Result Out Fault)
@@ -673,25 +715,28 @@ module _ {At Request Reply Out Object : Type 0} (system : System At Request Repl
           has_none (Some other) a has without = absurd has
           has_none None a has without = absurd has
 
-          on : EndedByTick failed ⊎ positions.NoteComes system Own Holds p m
-              → positions.NoteComes system Own Holds (now_at (Next.Ask (ToTimers cancel)) now cancel_heard) m
+          on : EndedByTick failed ⊎ positions.NoteComes system Own Starts Holds p m
+              → positions.NoteComes system Own Starts Holds
+              (now_at (Next.Ask (ToTimers cancel)) now cancel_heard) m
           on (inl has) = absurd (has_none failed answer has none)
           on (inr comes) =
-              positions.comes_on system Own Holds p fine m low cancel_heard
+              positions.comes_on system Own Starts Holds p fine m low cancel_heard
               (subst MayMove heard_is may_move) (Next.Ask (ToTimers cancel)) now m low (inr tt)
               comes
 
           by : (t : Timer) → own_timer ≡ t
-              → positions.NoteComes system Own Holds (now_at (Next.Ask (ToTimers cancel)) now cancel_heard) m
+              → positions.NoteComes system Own Starts Holds
+              (now_at (Next.Ask (ToTimers cancel)) now cancel_heard) m
           by timer.Expired t_is =
-              on (subst (positions.IsTold system Own Holds p m (Until until (Waits at failed))) t_is
+              on (subst (positions.IsTold system Own Starts Holds p m (Until until
+              (Waits at failed))) t_is
               (told_of (Until until (Waits at failed)) is))
           by (timer.Set to moment) t_is =
-              absurd (let no = sym expired_is ∙ ap is_expired (reply_is ∙ ap answer_cancelled t_is) in
-              cc)
+              absurd (let no = sym expired_is
+              ∙ ap is_expired (reply_is ∙ ap answer_cancelled t_is) in cc)
           by timer.Unset t_is =
-              absurd (let no = sym expired_is ∙ ap is_expired (reply_is ∙ ap answer_cancelled t_is) in
-              cc)
+              absurd (let no = sym expired_is
+              ∙ ap is_expired (reply_is ∙ ap answer_cancelled t_is) in cc)
 
       -- where it is over, with this answer
       cancels_at_end : (answer : Result Out Fault) (state : At)
@@ -777,7 +822,7 @@ module _ {At Request Reply Out Object : Type 0} (system : System At Request Repl
             → Settles (Next.Ask (ToTimers (Cancel until.seat)))
             (Until until (waits_on system.machine until at failed (outcome_by grain))) grain
         ends other other_is can =
-            subst (λ (g : positions.TimedGrain system Own Holds).
+            subst (λ (g : positions.TimedGrain system Own Starts Holds).
             Settles (Next.Ask (ToTimers (Cancel until.seat)))
             (Until until (waits_on system.machine until at failed (outcome_by g))) grain)
             (sym (asks_timers (Cancel until.seat) can))
@@ -801,21 +846,22 @@ module _ {At Request Reply Out Object : Type 0} (system : System At Request Repl
     -- ---- it awaits the note of a tick
 
     -- its notes are others
-    notes_long : (g : positions.TimedGrain system Own Holds)
+    notes_long : (g : positions.TimedGrain system Own Starts Holds)
         → length (notes_after timed p m g) ≡ length p.notes
     notes_long g =
         length-set p.notes (receiver m g) (notes_by (notes_of timed p (receiver m g)) g)
 
     -- where it took these notes, that of the tick is still to come if it is none of them
-    comes_later : (set notes : NoteSet) (does : positions.TimedNext system Own Holds)
+    comes_later : (set notes : NoteSet) (does : positions.TimedNext system Own Starts Holds)
         (now : TimedCall At Out) → set ≡ notes_of timed p m
-        → holds (joined notes set) Expired ≡ false → positions.NoteComes system Own Holds p m
-        → positions.NoteComes system Own Holds (now_at does now grain) m
+        → holds (joined notes set) Expired ≡ false → positions.NoteComes system Own Starts Holds p m
+        → positions.NoteComes system Own Starts Holds (now_at does now grain) m
     comes_later set notes does now all none (IsPending has) =
         absurd (let both = sym (holds_other notes set (ap (λ (n : NoteSet). holds n Expired) all
         ∙ has)) ∙ none in cc)
     comes_later set notes does now all none (IsOwed ticker there tells) =
-        positions.owed_on system Own Holds p fine m low grain may_move does now m ticker low there
+        positions.owed_on system Own Starts Holds p fine m low grain may_move does now m ticker
+        low there
         tells
 
     module _ (until : Deadline) (notes : NoteSet) (ending : WaitEnd Out) where
@@ -830,20 +876,20 @@ module _ {At Request Reply Out Object : Type 0} (system : System At Request Repl
           was : TimedCall At Out
           was = Until until (Awaits notes ending)
 
-          does : positions.TimedNext system Own Holds
+          does : positions.TimedNext system Own Starts Holds
           does = Next.Sleep until.rendez LAST_THRESHOLD
 
-          mine : positions.IsMine system Own Holds m was
+          mine : positions.IsMine system Own Starts Holds m was
           mine = mine_of was is
 
           -- where more notes came
-          ends : (set : NoteSet) (g : positions.TimedGrain system Own Holds)
+          ends : (set : NoteSet) (g : positions.TimedGrain system Own Starts Holds)
               → MayMove g
-              → Holds (positions.shown system Own Holds (now_at does was g)
+              → Holds (positions.shown system Own Starts Holds (now_at does was g)
               (slice_set fine.states m call))
               → (object_with timed p.object g).timers ≡ p.object.timers
               → (holds (joined notes set) Expired ≡ false → (now : TimedCall At Out)
-              → positions.NoteComes system Own Holds (now_at does now g) m)
+              → positions.NoteComes system Own Starts Holds (now_at does now g) m)
               → Settles does (Until until (with_notes true (joined notes set) ending)) g
           ends set g may_g inner same comes =
               with_notes_cases (λ (s : TimedState At Out). Settles does (Until until s) g) true
@@ -856,7 +902,7 @@ module _ {At Request Reply Out Object : Type 0} (system : System At Request Repl
               (λ out. same_timers does (Until until (Over out)) g may_g same call inner
               (show_of was is) (mine.0, tt) (timer_so was is) tt)
 
-          refused : (why : Fault) (g : positions.TimedGrain system Own Holds) → grain ≡ g
+          refused : (why : Fault) (g : positions.TimedGrain system Own Starts Holds) → grain ≡ g
               → g ≡ Refused why → IsRefusal why
               → Settles does (Until until (looked system.machine until notes ending (Err why)))
               (Refused why)
@@ -866,31 +912,31 @@ module _ {At Request Reply Out Object : Type 0} (system : System At Request Repl
               (subst MayMove (g_is ∙ w_is) may_move) refl call
               (inner_stays (notes_after timed p m (refusal_of why)) (notes_long (refusal_of why)))
               (show_of was is) (mine.0, tt) (timer_so was is)
-              (positions.comes_on system Own Holds p fine m low (Refused why)
+              (positions.comes_on system Own Starts Holds p fine m low (Refused why)
               (subst MayMove (g_is ∙ w_is) may_move) does (Until until (Drains notes ending)) m low
               (inr tt) (told_of was is))
             where
-              refusal_of : Fault → positions.TimedGrain system Own Holds
+              refusal_of : Fault → positions.TimedGrain system Own Starts Holds
               refusal_of w = Refused w
 
-          by : (g : positions.TimedGrain system Own Holds) → grain ≡ g → MayDo does g
+          by : (g : positions.TimedGrain system Own Starts Holds) → grain ≡ g → MayDo does g
               → Settles does (call_goes_on system was (outcome_by g)) g
           by Woken g_is may =
               ends no_notes Woken (subst MayMove g_is may_move)
               (inner_stays (notes_after timed p m woken_grain) (notes_long woken_grain)) refl
-              (λ none now. positions.comes_on system Own Holds p fine m low Woken
+              (λ none now. positions.comes_on system Own Starts Holds p fine m low Woken
               (subst MayMove g_is may_move) does now m low (inr tt) (told_of was is))
             where
-              woken_grain : positions.TimedGrain system Own Holds
+              woken_grain : positions.TimedGrain system Own Starts Holds
               woken_grain = Woken
           by (Noted set) g_is may =
               ends set (Noted set) (subst MayMove g_is may_move)
               (inner_stays (notes_after timed p m noted_grain) (notes_long noted_grain)) refl
-              (λ none now. subst (λ (g : positions.TimedGrain system Own Holds).
-              positions.NoteComes system Own Holds (now_at does now g) m) g_is
+              (λ none now. subst (λ (g : positions.TimedGrain system Own Starts Holds).
+              positions.NoteComes system Own Starts Holds (now_at does now g) m) g_is
               (comes_later set notes does now may.4 none (told_of was is)))
             where
-              noted_grain : positions.TimedGrain system Own Holds
+              noted_grain : positions.TimedGrain system Own Starts Holds
               noted_grain = Noted set
           by (Refused why) g_is may = refused why (Refused why) g_is refl may.3
           by g g_is may =
@@ -905,7 +951,7 @@ module _ {At Request Reply Out Object : Type 0} (system : System At Request Repl
           was : TimedCall At Out
           was = Until until (Drains notes ending)
 
-          mine : positions.IsMine system Own Holds m was
+          mine : positions.IsMine system Own Starts Holds m was
           mine = mine_of was is
 
           drained : (set : NoteSet) → grain ≡ Drained set → set ≡ notes_of timed p m
@@ -918,7 +964,8 @@ module _ {At Request Reply Out Object : Type 0} (system : System At Request Repl
               (Until until (Awaits (joined notes set) ending)) (Drained set)
               (subst MayMove g_is may_move) refl call inner (show_of was is) (mine.0, none)
               (timer_so was is)
-              (subst (λ (g : positions.TimedGrain system Own Holds). positions.NoteComes system Own Holds
+              (subst (λ (g : positions.TimedGrain system Own Starts Holds).
+              positions.NoteComes system Own Starts Holds
               (now_at Next.Drain (Until until (Awaits (joined notes set) ending)) g) m) g_is
               (comes_later set notes Next.Drain
               (Until until (Awaits (joined notes set) ending)) all none (told_of was is))))
@@ -929,7 +976,7 @@ module _ {At Request Reply Out Object : Type 0} (system : System At Request Repl
               (subst MayMove g_is may_move) refl call inner (show_of was is) (mine.0, tt)
               (timer_so was is) tt)
             where
-              drained_grain : positions.TimedGrain system Own Holds
+              drained_grain : positions.TimedGrain system Own Starts Holds
               drained_grain = Drained set
 
               inner : Holds (record {
@@ -940,7 +987,7 @@ module _ {At Request Reply Out Object : Type 0} (system : System At Request Repl
               })
               inner = inner_stays (notes_after timed p m drained_grain) (notes_long drained_grain)
 
-          by : (g : positions.TimedGrain system Own Holds) → grain ≡ g → MayDo Next.Drain g
+          by : (g : positions.TimedGrain system Own Starts Holds) → grain ≡ g → MayDo Next.Drain g
               → Settles Next.Drain (call_goes_on system was (outcome_by g)) g
           by (Drained set) g_is may = drained set g_is may.1
           by g g_is may =
@@ -956,7 +1003,8 @@ module _ {At Request Reply Out Object : Type 0} (system : System At Request Repl
         was : TimedCall At Out
         was = Until until (PutsBack set out)
 
-        by : (g : positions.TimedGrain system Own Holds) → grain ≡ g → MayDo (Next.Return set) g
+        by : (g : positions.TimedGrain system Own Starts Holds) → grain ≡ g
+            → MayDo (Next.Return set) g
             → Settles (Next.Return set) (call_goes_on system was (outcome_by g)) g
         by (Returned other) g_is may =
             same_timers (Next.Return set) (Until until (Over out)) (Returned other)
@@ -964,7 +1012,7 @@ module _ {At Request Reply Out Object : Type 0} (system : System At Request Repl
             (inner_stays (notes_after timed p m returned) (notes_long returned)) (show_of was is)
             ((mine_of was is).0, tt) (timer_so was is) tt
           where
-            returned : positions.TimedGrain system Own Holds
+            returned : positions.TimedGrain system Own Starts Holds
             returned = Returned other
         by g g_is may =
             absurd (comes_loosely timed p.object (notes_of timed p m) (Next.Return set) g may)
@@ -980,7 +1028,7 @@ module _ {At Request Reply Out Object : Type 0} (system : System At Request Repl
         was : TimedCall At Out
         was = Tick now (Telling count to)
 
-        by : (g : positions.TimedGrain system Own Holds) → grain ≡ g
+        by : (g : positions.TimedGrain system Own Starts Holds) → grain ≡ g
             → MayDo (Next.Post to (only Expired)) g
             → Settles (Next.Post to (only Expired)) (call_goes_on system was (outcome_by g)) g
         by (Posted other set) g_is may =
@@ -990,7 +1038,7 @@ module _ {At Request Reply Out Object : Type 0} (system : System At Request Repl
             (inner_stays (notes_after timed p m posted) (notes_long posted)) (show_of was is) tt
             (timer_so was is) tt
           where
-            posted : positions.TimedGrain system Own Holds
+            posted : positions.TimedGrain system Own Starts Holds
             posted = Posted other set
         by g g_is may =
             absurd (comes_loosely timed p.object (notes_of timed p m)
@@ -1001,7 +1049,7 @@ module _ {At Request Reply Out Object : Type 0} (system : System At Request Repl
         → Settles (Next.Ask (ToTimers (Expire now)))
         (call_goes_on system (Tick now (Asking count)) (outcome_by grain)) grain
     asking_so now count is can =
-        subst (λ (g : positions.TimedGrain system Own Holds). Settles (Next.Ask (ToTimers c))
+        subst (λ (g : positions.TimedGrain system Own Starts Holds). Settles (Next.Ask (ToTimers c))
         (call_goes_on system was (outcome_by g)) g) (sym heard_is)
         (by (expires_so now p.object.timers))
       where
@@ -1011,7 +1059,7 @@ module _ {At Request Reply Out Object : Type 0} (system : System At Request Repl
         c : TimerCall
         c = Expire now
 
-        heard : positions.TimedGrain system Own Holds
+        heard : positions.TimedGrain system Own Starts Holds
         heard = Heard (ToTimers c) (FromTimers (timing.answer_to p.object.timers c))
 
         heard_is : grain ≡ heard
@@ -1059,11 +1107,11 @@ module _ {At Request Reply Out Object : Type 0} (system : System At Request Repl
             pid_is : pid.0 ≡ seat
             pid_is =
                 of (at_of timed p seat)
-                (subst (positions.IsTimerOf system Own Holds seat (at_of timed p seat)) has
+                (subst (positions.IsTimerOf system Own Starts Holds seat (at_of timed p seat)) has
                 (fine.own_timer seat seat_low))
               where
                 of : (s : TimedCall At Out)
-                    → positions.IsTimerOf system Own Holds seat s (timer.Set pid moment)
+                    → positions.IsTimerOf system Own Starts Holds seat s (timer.Set pid moment)
                     → pid.0 ≡ seat
                 of (Until until (Waits at failed)) set_for = set_for
                 of s unset = absurd cc
@@ -1096,67 +1144,73 @@ module _ {At Request Reply Out Object : Type 0} (system : System At Request Repl
 
             -- the timer of a process that waits expired, or it is as it was
             others_timer : (other : ℕ) → other < procs system
-                → positions.IsTimerOf system Own Holds other (at_of timed p other)
-                (positions.timer_at system Own Holds now_is other)
+                → positions.IsTimerOf system Own Starts Holds other (at_of timed p other)
+                (positions.timer_at system Own Starts Holds now_is other)
             others_timer other there = of (eqb_tells other seat)
               where
                 expires : (s : TimedCall At Out)
-                    → positions.IsTimerOf system Own Holds seat s (timer.Set pid moment)
-                    → positions.IsTimerOf system Own Holds seat s timer.Expired
+                    → positions.IsTimerOf system Own Starts Holds seat s (timer.Set pid moment)
+                    → positions.IsTimerOf system Own Starts Holds seat s timer.Expired
                 expires (Until until (Waits at failed)) set_for = tt
                 expires s unset = absurd cc
 
                 of : ((eqb other seat ≡ true) × (other ≡ seat))
                     ⊎ ((eqb other seat ≡ false) × (other ≢ seat))
-                    → positions.IsTimerOf system Own Holds other (at_of timed p other)
-                    (positions.timer_at system Own Holds now_is other)
+                    → positions.IsTimerOf system Own Starts Holds other (at_of timed p other)
+                    (positions.timer_at system Own Starts Holds now_is other)
                 of (inl same) =
-                    subst (λ (q : ℕ). positions.IsTimerOf system Own Holds q (at_of timed p q)
-                    (positions.timer_at system Own Holds now_is q)) (sym same.1)
-                    (subst (positions.IsTimerOf system Own Holds seat (at_of timed p seat))
+                    subst (λ (q : ℕ). positions.IsTimerOf system Own Starts Holds q
+                    (at_of timed p q)
+                    (positions.timer_at system Own Starts Holds now_is q)) (sym same.1)
+                    (subst (positions.IsTimerOf system Own Starts Holds seat (at_of timed p seat))
                     (sym change.own)
                     (expires (at_of timed p seat)
-                    (subst (positions.IsTimerOf system Own Holds seat (at_of timed p seat)) has
+                    (subst (positions.IsTimerOf system Own Starts Holds seat
+                    (at_of timed p seat)) has
                     (fine.own_timer seat seat_low))))
                 of (inr apart) =
-                    subst (positions.IsTimerOf system Own Holds other (at_of timed p other))
+                    subst (positions.IsTimerOf system Own Starts Holds other (at_of timed p other))
                     (sym (change.others other apart.1)) (fine.own_timer other there)
 
             others_told : (other : ℕ) → other ≢ m → other < procs system
-                → positions.IsTold system Own Holds now_is other (at_of timed p other)
-                (positions.timer_at system Own Holds now_is other)
+                → positions.IsTold system Own Starts Holds now_is other (at_of timed p other)
+                (positions.timer_at system Own Starts Holds now_is other)
             others_told other apart there = of (eqb_tells other seat)
               where
-                owed : positions.NoteComes system Own Holds now_is seat
+                owed : positions.NoteComes system Own Starts Holds now_is seat
                 owed =
-                    IsOwed m low (subst (positions.IsToTell system Own Holds seat)
-                    (sym (own_now p.states m (positions.long system Own Holds p fine m low)
+                    IsOwed m low (subst (positions.IsToTell system Own Starts Holds seat)
+                    (sym (own_now p.states m (positions.long system Own Starts Holds p fine m low)
                     (Tick now telling) (timed.none))) pid_is)
 
                 expires : (s : TimedCall At Out)
-                    → positions.IsTimerOf system Own Holds seat s (timer.Set pid moment)
-                    → positions.IsTold system Own Holds now_is seat s timer.Expired
+                    → positions.IsTimerOf system Own Starts Holds seat s (timer.Set pid moment)
+                    → positions.IsTold system Own Starts Holds now_is seat s timer.Expired
                 expires (Until until (Waits at failed)) set_for = inr owed
                 expires s unset = absurd cc
 
                 of : ((eqb other seat ≡ true) × (other ≡ seat))
                     ⊎ ((eqb other seat ≡ false) × (other ≢ seat))
-                    → positions.IsTold system Own Holds now_is other (at_of timed p other)
-                    (positions.timer_at system Own Holds now_is other)
+                    → positions.IsTold system Own Starts Holds now_is other (at_of timed p other)
+                    (positions.timer_at system Own Starts Holds now_is other)
                 of (inl same) =
-                    subst (λ (q : ℕ). positions.IsTold system Own Holds now_is q (at_of timed p q)
-                    (positions.timer_at system Own Holds now_is q)) (sym same.1)
-                    (subst (positions.IsTold system Own Holds now_is seat (at_of timed p seat))
+                    subst (λ (q : ℕ). positions.IsTold system Own Starts Holds now_is q
+                    (at_of timed p q)
+                    (positions.timer_at system Own Starts Holds now_is q)) (sym same.1)
+                    (subst (positions.IsTold system Own Starts Holds now_is seat
+                    (at_of timed p seat))
                     (sym change.own)
                     (expires (at_of timed p seat)
-                    (subst (positions.IsTimerOf system Own Holds seat (at_of timed p seat)) has
+                    (subst (positions.IsTimerOf system Own Starts Holds seat
+                    (at_of timed p seat)) has
                     (fine.own_timer seat seat_low))))
                 of (inr off) =
-                    subst (positions.IsTold system Own Holds now_is other (at_of timed p other))
+                    subst (positions.IsTold system Own Starts Holds now_is other
+                    (at_of timed p other))
                     (sym (change.others other off.1))
-                    (positions.told_on system Own Holds p fine m low heard may_heard
+                    (positions.told_on system Own Starts Holds p fine m low heard may_heard
                     (Next.Ask (ToTimers c)) (Tick now telling) other there (inl apart)
-                    (at_of timed p other) (positions.timer_at system Own Holds p other)
+                    (at_of timed p other) (positions.timer_at system Own Starts Holds p other)
                     (fine.told other there))
 
             takes : Settles (Next.Ask (ToTimers c)) (Tick now telling) heard
@@ -1200,9 +1254,9 @@ module _ {At Request Reply Out Object : Type 0} (system : System At Request Repl
     moves_so (Tick now at) is can = tick_so now at is can
 
     -- so all of it holds after it
-    pub fine_more : positions.Fine system Own Holds
+    pub fine_more : positions.Fine system Own Starts Holds
         (moved timed p (record { by = m; grain = grain }))
     fine_more =
-        positions.settle system Own Holds p fine m low (call_does system (at_of timed p m))
+        positions.settle system Own Starts Holds p fine m low (call_does system (at_of timed p m))
         (call_goes_on system (at_of timed p m) (outcome_by grain)) grain
         (moves_so (at_of timed p m) refl may_move)

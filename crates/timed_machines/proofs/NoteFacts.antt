@@ -25,6 +25,7 @@ or_false : (b : Bool) → (b || false) ≡ b
 or_false true = refl
 or_false false = refl
 
+-- and so is one of those that are more
 pub holds_other : (set more : NoteSet) → holds more Expired ≡ true
     → holds (joined set more) Expired ≡ true
 holds_other set more has = ap (λ (b : Bool). set.expired || b) has ∙ or_true set.expired

@@ -21,13 +21,13 @@ use Rattle.space_machines.specs.MeetMachine.{MeetState, meet_does, meet_goes_on,
 use Rattle.space_machines.specs.MeetMachine.MeetState.{Calls, Waking as WakesPartner, Woke}
 use Rattle.object_machines.specs.ObjectCalls.{ObjectCall, ObjectOut, ObjectReply, ObjectRequest}
 use Rattle.object_machines.specs.ObjectCalls.{Objects, object_calls}
-use Rattle.object_machines.specs.ObjectCalls.ObjectCall.{Alone, AtSema, Chooses, InSpace}
+use Rattle.object_machines.specs.ObjectCalls.ObjectCall.{AtSema, InSpace}
 use Rattle.object_machines.specs.ObjectCalls.ObjectOut.{FromSpace}
-use Rattle.object_machines.specs.ObjectCalls.ObjectReply.{BySema, BySpace, Chosen}
+use Rattle.object_machines.specs.ObjectCalls.ObjectReply.{BySema, BySpace}
 use Rattle.object_machines.specs.ObjectCalls.ObjectRequest.{OfSpace}
-use Rattle.object_machines.specs.OwnCalls.ChoiceState.{Choosing, HasChosen}
-use Rattle.object_machines.specs.OwnCalls.OwnState.{Done, Draining, Posting}
+use Rattle.object_machines.specs.ObjectEnds.{BeginsBy, WaitsIn}
 use Rattle.timed_machines.specs.NotesKept.{ComesFrom, IsAsleep, KeepsNotes, ended_by}
+use Rattle.timed_machines.specs.TimedEnds.{MayHaveDeadline}
 
 -- a wait that notes ended leaves, returns notes or is over
 abbrev HasLeft : {Out : Type 0} → WaitState Out → Type 0
@@ -64,42 +64,35 @@ module _ (objects : Objects) where
   abbrev machine : Machine ObjectCall ObjectRequest ObjectReply ObjectOut
   machine = (object_calls objects).machine
 
+  -- the calls that may have a deadline
+  abbrev Starts : ObjectCall → Type 0
+  Starts = MayHaveDeadline (object_calls objects) (BeginsBy objects) (WaitsIn objects)
+
   -- ---- after a sleep
 
-  -- a call that waits, or that has waited
+  -- a call at a semaphore or in the space may wait
   abbrev MayWait : ObjectCall → Type 0
-  MayWait (AtSema number (Takes seat w)) = ⊤
+  MayWait (AtSema number at) = ⊤
   MayWait (InSpace call) = ⊤
   MayWait other = ⊥
 
-  waits_so : (at : ObjectCall) → IsAsleep machine at → MayWait at
-  waits_so (AtSema number (Takes seat w)) asleep = tt
-  waits_so (AtSema number (Tries seat Trying)) asleep = absurd (let is = asleep.2 in cc)
-  waits_so (AtSema number (Tries seat (Tried answer))) asleep = absurd (let is = asleep.2 in cc)
-  waits_so (AtSema number (Gives count Releasing)) asleep = absurd (let is = asleep.2 in cc)
-  waits_so (AtSema number (Gives count (Waking sum seat grants))) asleep =
-      absurd (let is = asleep.2 in cc)
-  waits_so (AtSema number (Gives count (Naming sum))) asleep = absurd (let is = asleep.2 in cc)
-  waits_so (AtSema number (Gives count (Released answer))) asleep =
-      absurd (let is = asleep.2 in cc)
-  waits_so (InSpace call) asleep = tt
-  waits_so (Alone Draining) asleep = absurd (let is = asleep.2 in cc)
-  waits_so (Alone (Posting pid set)) asleep = absurd (let is = asleep.2 in cc)
-  waits_so (Alone Done) asleep = absurd (let is = asleep.2 in cc)
-  waits_so (Chooses Choosing) asleep = absurd (let is = asleep.2 in cc)
-  waits_so (Chooses (HasChosen way)) asleep = absurd (let is = asleep.2 in cc)
+  starts_so : (at : ObjectCall) → Starts at → MayWait at
+  starts_so at may = by at may.3
+    where
+      by : (a : ObjectCall) → WaitsIn objects may.0 a may.1 → MayWait a
+      by (AtSema number own) waits = tt
+      by (InSpace call) waits = tt
+      by a waits = absurd waits
 
   waits_on : (at : ObjectCall) (came : Outcome ObjectReply) → MayWait at
       → MayWait (machine.goes_on at came)
-  waits_on (AtSema number (Takes seat w)) (Outcome.Replied (BySema replied)) waits = tt
-  waits_on (AtSema number (Takes seat w)) (Outcome.Replied (BySpace told)) waits = tt
-  waits_on (AtSema number (Takes seat w)) (Outcome.Replied (Chosen way)) waits = tt
-  waits_on (AtSema number (Takes seat w)) (Outcome.Slept ended) waits = tt
-  waits_on (AtSema number (Takes seat w)) Outcome.Went waits = tt
-  waits_on (AtSema number (Takes seat w)) (Outcome.Took set) waits = tt
-  waits_on (InSpace call) (Outcome.Replied (BySema replied)) waits = tt
+  waits_on (AtSema number at) (Outcome.Replied (BySema replied)) waits = tt
+  waits_on (AtSema number at) (Outcome.Replied other) waits = tt
+  waits_on (AtSema number at) (Outcome.Slept ended) waits = tt
+  waits_on (AtSema number at) Outcome.Went waits = tt
+  waits_on (AtSema number at) (Outcome.Took set) waits = tt
   waits_on (InSpace call) (Outcome.Replied (BySpace told)) waits = tt
-  waits_on (InSpace call) (Outcome.Replied (Chosen way)) waits = tt
+  waits_on (InSpace call) (Outcome.Replied other) waits = tt
   waits_on (InSpace call) (Outcome.Slept ended) waits = tt
   waits_on (InSpace call) Outcome.Went waits = tt
   waits_on (InSpace call) (Outcome.Took set) waits = tt
@@ -141,6 +134,13 @@ module _ (objects : Objects) where
 
   drains_not : (at : ObjectCall) → MayWait at → machine.does at ≡ Next.Drain → ⊥
   drains_not (AtSema number (Takes seat w)) waits is = wait_drains number seat w is
+  drains_not (AtSema number (Tries seat Trying)) waits is = cc
+  drains_not (AtSema number (Tries seat (Tried answer))) waits is = cc
+  drains_not (AtSema number (Gives count Releasing)) waits is = cc
+  drains_not (AtSema number (Gives count (Waking sum seat grants))) waits is = cc
+  drains_not (AtSema number (Gives count (Naming sum))) waits is = cc
+  drains_not (AtSema number (Gives count (Released (Ok sum)))) waits is = cc
+  drains_not (AtSema number (Gives count (Released (Err why)))) waits is = cc
   drains_not (InSpace call) waits is = meet_drains call.member call.offered call.at is
   drains_not at waits is = waits
 
@@ -172,18 +172,16 @@ module _ (objects : Objects) where
       → CallLeft (machine.goes_on at came)
   call_on (AtSema number (Takes seat w)) (Outcome.Replied (BySema replied)) left =
       left_on (acquire_table seat) w (Outcome.Replied replied) left
-  call_on (AtSema number (Takes seat w)) (Outcome.Replied (BySpace told)) left = left
-  call_on (AtSema number (Takes seat w)) (Outcome.Replied (Chosen way)) left = left
+  call_on (AtSema number (Takes seat w)) (Outcome.Replied other) left = left
   call_on (AtSema number (Takes seat w)) (Outcome.Slept ended) left =
       left_on (acquire_table seat) w (Outcome.Slept ended) left
   call_on (AtSema number (Takes seat w)) Outcome.Went left =
       left_on (acquire_table seat) w Outcome.Went left
   call_on (AtSema number (Takes seat w)) (Outcome.Took set) left =
       left_on (acquire_table seat) w (Outcome.Took set) left
-  call_on (InSpace call) (Outcome.Replied (BySema replied)) left = left
   call_on (InSpace call) (Outcome.Replied (BySpace told)) left =
       met_on call.member call.offered call.at (Outcome.Replied told) left
-  call_on (InSpace call) (Outcome.Replied (Chosen way)) left = left
+  call_on (InSpace call) (Outcome.Replied other) left = left
   call_on (InSpace call) (Outcome.Slept ended) left =
       met_on call.member call.offered call.at (Outcome.Slept ended) left
   call_on (InSpace call) Outcome.Went left =
@@ -229,6 +227,20 @@ module _ (objects : Objects) where
       → CallLeft (ended_by machine set at)
   call_ends (AtSema number (Takes seat w)) set waits asleep =
       wait_ends number seat w set asleep.0 asleep.1 asleep.2
+  call_ends (AtSema number (Tries seat Trying)) set waits asleep =
+      absurd (let is = asleep.2 in cc)
+  call_ends (AtSema number (Tries seat (Tried answer))) set waits asleep =
+      absurd (let is = asleep.2 in cc)
+  call_ends (AtSema number (Gives count Releasing)) set waits asleep =
+      absurd (let is = asleep.2 in cc)
+  call_ends (AtSema number (Gives count (Waking sum seat grants))) set waits asleep =
+      absurd (let is = asleep.2 in cc)
+  call_ends (AtSema number (Gives count (Naming sum))) set waits asleep =
+      absurd (let is = asleep.2 in cc)
+  call_ends (AtSema number (Gives count (Released (Ok sum)))) set waits asleep =
+      absurd (let is = asleep.2 in cc)
+  call_ends (AtSema number (Gives count (Released (Err why)))) set waits asleep =
+      absurd (let is = asleep.2 in cc)
   call_ends (InSpace call) set waits asleep =
       meet_ends call.member call.offered call.at set asleep.0 asleep.1 asleep.2
   call_ends at set waits asleep = absurd waits
@@ -263,12 +275,15 @@ module _ (objects : Objects) where
       met_awake call.member call.offered call.at asleep.0 asleep.1 left asleep.2
   call_awake at left asleep = left
 
-  pub keeps_notes : KeepsNotes machine
+  -- so the calls at several objects keep the note of a tick
+  pub keeps_notes : KeepsNotes machine (Starts)
   keeps_notes =
       record {
-        takes_none = λ from at times asleep comes.
-            drains_not at (comes_so from at times (waits_so from asleep) comes);
-        sleeps_no_more = λ from at set times asleep comes.
+        takes_none = λ start from at before times starts began asleep comes.
+            drains_not at (comes_so from at times
+            (comes_so start from before (starts_so start starts) began) comes);
+        sleeps_no_more = λ start from at set before times starts began asleep comes.
             call_awake at (ended_so (ended_by machine set from) at times
-            (call_ends from set (waits_so from asleep) asleep) comes);
+            (call_ends from set (comes_so start from before (starts_so start starts) began)
+            asleep) comes);
       }

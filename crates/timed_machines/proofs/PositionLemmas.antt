@@ -1,6 +1,6 @@
 -- What holds of calls with deadlines and of ticks wherever their moves come: the calls within are
--- as their own system has them, a timer is of the call that set it, and the note of a tick that took
--- it is on its way.
+-- as their own system has them, a timer is of the call that set it, and the note of a tick that
+-- took it is on its way.
 use Rattle.std.proofs.Common.{◌≡◌, ◌≢◌, ◌⊎◌, inl, inr, ◌<◌, ℕ, true, false, eqb, Option}
 use Rattle.std.proofs.Common.{Some, List, length, sym, ◌∙◌, ap, subst}
 use Rattle.std.specs.Prelude.{⊤, slice_index_or, slice_set}
@@ -38,14 +38,17 @@ use Rattle.timed_machines.specs.TimedEnds.{EndedByTick, IsItsDeadline}
 use Rattle.timed_machines.proofs.NoteFacts.{holds_more, holds_other}
 
 module _ {At Request Reply Out Object : Type 0} (system : System At Request Reply Out Object)
-    (Own : ℕ → RendezId → Type 0) (Holds : Coarse system → Type 0) where
+    (Own : ℕ → RendezId → Type 0) (Starts : At → Type 0) (Holds : Coarse system → Type 0) where
+  -- the calls with deadlines and the ticks
   abbrev pub timed : System (TimedCall At Out) (TimedRequest Request) (TimedReply Reply)
       (TimedOut Out) (TimedObject Object)
   timed = timed_calls system
 
+  -- what a process does there at the grain of calls
   abbrev pub TimedGrain : Type 0
   TimedGrain = Grain (TimedRequest Request) (TimedReply Reply)
 
+  -- and what one of its calls does next
   abbrev pub TimedNext : Type 0
   TimedNext = Next (TimedRequest Request) (TimedOut Out)
 
@@ -56,9 +59,11 @@ module _ {At Request Reply Out Object : Type 0} (system : System At Request Repl
   shown p states =
       record { object = p.object.device; states = states; notes = p.notes; levels = p.levels }
 
+  -- where the call within of a process is
   abbrev pub state_at : List At → ℕ → At
   state_at states pid = slice_index_or states pid system.none
 
+  -- the timer of a process in a position
   abbrev pub timer_at : Coarse timed → ℕ → Timer
   timer_at p pid = timer_of p.object.timers pid
 
@@ -73,34 +78,63 @@ module _ {At Request Reply Out Object : Type 0} (system : System At Request Repl
 
   -- its deadline is its own, and it may sleep in its Rendez
   pub record IsOwn (pid : ℕ) (until : Deadline) : Type 0 where
+    -- it waits by the timer of its process
     pub deadline : IsItsDeadline pid until
+    -- in a Rendez in which its process may sleep
     pub own : Own pid until.rendez
+    -- and which is in the world
     pub there : until.rendez.0 < system.rendez
+
+  -- the call within is one that may have a deadline
+  pub record HasBegun (at : At) : Type 0 where
+    -- the state in which it began
+    pub start : At
+    -- the number of steps since then
+    pub before : ℕ
+    -- it is such a call
+    pub starts : Starts start
+    -- and has come from there to this state
+    pub began : ComesFrom system.machine start before at
 
   -- the call within has slept
   pub record HasSlept (at : At) : Type 0 where
+    -- a state in which it slept
     pub from : At
+    -- to which it came from its start
+    pub begun : HasBegun from
+    -- the number of steps since then
     pub times : ℕ
+    -- it sleeps in that state
     pub asleep : IsAsleep system.machine from
+    -- and has come from it to this one
     pub comes : ComesFrom system.machine from times at
 
   -- these notes ended its sleep
   pub record WasEnded (set : NoteSet) (at : At) : Type 0 where
+    -- a state in which it slept
     pub from : At
+    -- to which it came from its start
+    pub begun : HasBegun from
+    -- the number of steps since then
     pub times : ℕ
+    -- it sleeps in that state
     pub asleep : IsAsleep system.machine from
+    -- and has come from it to this one
     pub comes : ComesFrom system.machine (ended_by system.machine set from) times at
 
+  -- these notes ended it, where its last sleep failed by notes
   abbrev pub HasFailed : Option Fault → At → Type 0
   HasFailed (Some (fault.Interrupted set)) at = WasEnded set at
   HasFailed other at = ⊤
 
   -- how a call with a deadline has come there
   abbrev pub HasCome : TimedState At Out → Type 0
-  HasCome (Waits at failed) = HasSlept at × HasFailed failed at
+  HasCome (Begins at) = HasBegun at
+  HasCome (Waits at failed) = HasBegun at × HasSlept at × HasFailed failed at
   HasCome (Awaits notes ending) = holds notes Expired ≡ false
   HasCome other = ⊤
 
+  -- a call with a deadline is one of its own process
   abbrev pub IsMine : ℕ → TimedCall At Out → Type 0
   IsMine pid (Until until at) = IsOwn pid until × HasCome at
   IsMine pid other = ⊤
@@ -110,6 +144,7 @@ module _ {At Request Reply Out Object : Type 0} (system : System At Request Repl
   IsSetFor pid (timer.Set to moment) = to.0 ≡ pid
   IsSetFor pid other = ⊤
 
+  -- the timer of a process is as its call says
   abbrev pub IsTimerOf : ℕ → TimedCall At Out → Timer → Type 0
   IsTimerOf pid (Until until (Waits at failed)) t = IsSetFor pid t
   IsTimerOf pid other t = t ≡ timer.Unset
@@ -134,18 +169,29 @@ module _ {At Request Reply Out Object : Type 0} (system : System At Request Repl
   IsTold p pid (Until until (Drains notes ending)) t = NoteComes p pid
   IsTold p pid other t = ⊤
 
+  -- what holds of a position after any moves
   pub record Fine (p : Coarse timed) : Type 0 where
+    -- where the call within of each process is
     pub states : List At
+    -- what the calls within show holds of them
     pub inner : Holds (shown p states)
+    -- each process has a state of its own
     pub sized : length p.states ≡ procs system
+    -- and one of its call within
     pub states_sized : length states ≡ procs system
+    -- each has its set of notes
     pub notes_sized : length p.notes ≡ procs system
+    -- and each process has a timer
     pub timers_sized : length p.object.timers ≡ procs system
+    -- the call within is that of the process
     pub show : (pid : ℕ) → pid < procs system
         → IsShown (at_of timed p pid) (state_at states pid)
+    -- its deadline is its own, and it came there as it should
     pub mine : (pid : ℕ) → pid < procs system → IsMine pid (at_of timed p pid)
+    -- its timer is set only where it waits
     pub own_timer : (pid : ℕ) → pid < procs system
         → IsTimerOf pid (at_of timed p pid) (timer_at p pid)
+    -- and the note of a tick that took it comes
     pub told : (pid : ℕ) → pid < procs system
         → IsTold p pid (at_of timed p pid) (timer_at p pid)
 
@@ -165,21 +211,31 @@ module _ {At Request Reply Out Object : Type 0} (system : System At Request Repl
   -- what holds then of that process, and of the timers
   pub record Settled (p : Coarse timed) (fine : Fine p) (m : ℕ) (does : TimedNext)
       (now : TimedCall At Out) (grain : TimedGrain) : Type 0 where
+    -- where its call within is now
     pub state : At
+    -- what the calls within show holds with that
     pub inner : Holds (shown (moved_so p m does now grain) (slice_set fine.states m state))
+    -- it is the call within of the process
     pub show : IsShown now state
+    -- its deadline is its own, as before
     pub mine : IsMine m now
+    -- there are as many timers as before
     pub timers_sized : length (moved_so p m does now grain).object.timers ≡ procs system
+    -- its own timer is as its state says
     pub own_timer : IsTimerOf m now (timer_at (moved_so p m does now grain) m)
+    -- and it has the note of a tick, or it comes
     pub told : IsTold (moved_so p m does now grain) m now
         (timer_at (moved_so p m does now grain) m)
+    -- so are the timers of the others
     pub others_timer : (other : ℕ) → other ≢ m → other < procs system
         → IsTimerOf other (at_of timed p other) (timer_at (moved_so p m does now grain) other)
+    -- and each of them has that note, or it comes
     pub others_told : (other : ℕ) → other ≢ m → other < procs system
         → IsTold (moved_so p m does now grain) other (at_of timed p other)
         (timer_at (moved_so p m does now grain) other)
 
   module _ (p : Coarse timed) (fine : Fine p) (m : ℕ) (low : m < procs system) where
+    -- the process has a state that changes
     pub long : m < length p.states
     long = subst (λ (n : ℕ). m < n) (sym fine.sized) low
 
@@ -327,6 +383,7 @@ module _ {At Request Reply Out Object : Type 0} (system : System At Request Repl
               IsOwed ticker there (subst (IsToTell other)
               (sym (others_now p.states m long now (timed.none) ticker differs.1)) tells)
 
+      -- so a note that comes to a process comes still
       pub comes_on : (does : TimedNext) (now : TimedCall At Out) (other : ℕ)
           → other < procs system → (other ≢ m) ⊎ TakesNone grain → NoteComes p other
           → NoteComes (moved_so p m does now grain) other
@@ -335,6 +392,7 @@ module _ {At Request Reply Out Object : Type 0} (system : System At Request Repl
       comes_on does now other within takes (IsOwed ticker there tells) =
           owed_on does now other ticker within there tells
 
+      -- and what is known of it by its timer is known still
       pub told_on : (does : TimedNext) (now : TimedCall At Out) (other : ℕ)
           → other < procs system → (other ≢ m) ⊎ TakesNone grain
           → (s : TimedCall At Out) (t : Timer) → IsTold p other s t

@@ -24,7 +24,8 @@ use Rattle.timed_machines.specs.TimedCalls.{timed_calls}
 use Rattle.timed_machines.specs.TimedCalls.TimedCall.{Plain, Tick, Until}
 use Rattle.timed_machines.specs.TimedEnds.{BeginsTimed, IsOfWait, IsTick, IsTimed, IsTold, IsToTell}
 use Rattle.timed_machines.specs.TimedEnds.{NoteComes}
-use Rattle.timed_machines.specs.TimedEnds.{NotesOfTicksCome, timed_goes, timed_programs}
+use Rattle.timed_machines.specs.TimedEnds.{MayHaveDeadline, NotesOfTicksCome, timed_goes}
+use Rattle.timed_machines.specs.TimedEnds.{timed_programs}
 use Rattle.timed_machines.specs.TimedEnds.NoteComes.{IsOwed, IsPending}
 use Rattle.timed_machines.proofs.InvariantLemmas as timed_lemmas
 use Rattle.timed_machines.proofs.PositionLemmas as positions
@@ -34,7 +35,7 @@ module _ {At Request Reply Out Object Place : Type 0} (system : System At Reques
     (WaitsIn : ℕ → At → RendezId → Type 0) (Own : ℕ → RendezId → Type 0)
     (Holds : Coarse system → Type 0)
     (invariant : Invariant system (λ object at. goes object at ≡ true) BeginsBy Own Holds)
-    (keeps : KeepsNotes system.machine)
+    (keeps : KeepsNotes system.machine (MayHaveDeadline system BeginsBy WaitsIn))
     (own_rendez : (pid : ℕ) (at : At) (rendez : RendezId) → pid < procs system
     → BeginsBy pid at → WaitsIn pid at rendez → Own pid rendez × (rendez.0 < system.rendez))
     (program : Program Place (TimedCall At Out) (TimedOut Out)) (starts : List (Option Place))
@@ -44,10 +45,14 @@ module _ {At Request Reply Out Object Place : Type 0} (system : System At Reques
       (TimedReply Reply) Unit (TimedObject Object)
   whole = timed_programs system program starts
 
+  -- the calls that may have a deadline
+  abbrev Starts : At → Type 0
+  Starts = MayHaveDeadline system BeginsBy WaitsIn
+
   abbrev FineIn : Coarse whole → Type 0
   FineIn p =
       wholes.Fine (timed_calls system) program starts (timed_goes system goes) IsTick
-      (BeginsTimed system BeginsBy WaitsIn) Own (positions.Fine system Own Holds)
+      (BeginsTimed system BeginsBy WaitsIn) Own (positions.Fine system Own Starts Holds)
       (timed_lemmas.timed_invariant system goes BeginsBy WaitsIn Own Holds invariant keeps
       own_rendez) many begin p
 
@@ -69,7 +74,8 @@ module _ {At Request Reply Out Object Place : Type 0} (system : System At Reques
 
     show_of : (pid : ℕ) → pid < procs system → (s : ProgramState Place (TimedCall At Out))
         → at_of whole p pid ≡ s
-        → wholes.IsShown (timed_calls system) program starts s (at_of (timed_calls system) calls_at pid)
+        → wholes.IsShown (timed_calls system) program starts s
+        (at_of (timed_calls system) calls_at pid)
     show_of pid low s is =
         subst (λ (r : ProgramState Place (TimedCall At Out)).
         wholes.IsShown (timed_calls system) program starts r
@@ -77,16 +83,18 @@ module _ {At Request Reply Out Object Place : Type 0} (system : System At Reques
 
     -- who is to tell is to tell in its program
     tells_so : (pid ticker : ℕ) → ticker < procs system
-        → positions.IsToTell system Own Holds pid (at_of (timed_calls system) calls_at ticker)
+        → positions.IsToTell system Own Starts Holds pid (at_of
+        (timed_calls system) calls_at ticker)
         → IsToTell system program starts pid (at_of whole p ticker)
     tells_so pid ticker low tells = by (at_of whole p ticker) (show_of ticker low _ refl)
       where
-        of : (c : TimedCall At Out) → positions.IsToTell system Own Holds pid c → (place : Place)
+        of : (c : TimedCall At Out) → positions.IsToTell system Own Starts Holds pid c
+            → (place : Place)
             → IsToTell system program starts pid (In place c)
         of (Tick now (Telling count to)) is place = is
         of c is place = absurd is
 
-        ended : (c : TimedCall At Out) → positions.IsToTell system Own Holds pid c
+        ended : (c : TimedCall At Out) → positions.IsToTell system Own Starts Holds pid c
             → HasEnded (call_does system c) → ⊥
         ended (Tick now (Telling count to)) is over = over
         ended c is over = absurd is
@@ -96,17 +104,17 @@ module _ {At Request Reply Out Object Place : Type 0} (system : System At Reques
             (at_of (timed_calls system) calls_at ticker)
             → IsToTell system program starts pid s
         by (In place c) is =
-            of c (subst (positions.IsToTell system Own Holds pid) is tells) place
+            of c (subst (positions.IsToTell system Own Starts Holds pid) is tells) place
         by Ended over = absurd (ended (at_of (timed_calls system) calls_at ticker) tells over)
 
-    comes_so : (pid : ℕ) → positions.NoteComes system Own Holds calls_at pid
+    comes_so : (pid : ℕ) → positions.NoteComes system Own Starts Holds calls_at pid
         → NoteComes system program starts p pid
     comes_so pid (positions.NoteComes.IsPending has) = IsPending has
     comes_so pid (positions.NoteComes.IsOwed ticker low tells) =
         IsOwed ticker (within ticker low) (tells_so pid ticker low tells)
 
     told_so : (pid : ℕ) (place : Place) (c : TimedCall At Out) (t : Timer)
-        → positions.IsTold system Own Holds calls_at pid c t
+        → positions.IsTold system Own Starts Holds calls_at pid c t
         → IsTold system program starts p pid (In place c) t
     told_so pid place (Until until (Waits at failed)) timer.Expired (inl has) = inl has
     told_so pid place (Until until (Waits at failed)) timer.Expired (inr comes) =
@@ -116,7 +124,7 @@ module _ {At Request Reply Out Object Place : Type 0} (system : System At Reques
     told_so pid place c t told = tt
 
     wait_so : (pid : ℕ) (place : Place) (c : TimedCall At Out) (t : Timer)
-        → positions.IsTimerOf system Own Holds pid c t
+        → positions.IsTimerOf system Own Starts Holds pid c t
         → IsOfWait system program starts (In place c) t
     wait_so pid place (Until until (Waits at failed)) t is = tt
     wait_so pid place (Until until (Begins at)) t is = is
@@ -133,11 +141,11 @@ module _ {At Request Reply Out Object Place : Type 0} (system : System At Reques
         t : Timer
         t = timer_of p.object.timers pid
 
-        told : positions.IsTold system Own Holds calls_at pid
+        told : positions.IsTold system Own Starts Holds calls_at pid
             (at_of (timed_calls system) calls_at pid) t
         told = fine.holds.told pid low
 
-        of_timer : positions.IsTimerOf system Own Holds pid
+        of_timer : positions.IsTimerOf system Own Starts Holds pid
             (at_of (timed_calls system) calls_at pid) t
         of_timer = fine.holds.own_timer pid low
 
@@ -150,11 +158,11 @@ module _ {At Request Reply Out Object Place : Type 0} (system : System At Reques
               told = subst (λ (r : ProgramState Place (TimedCall At Out)).
                   IsTold system program starts p pid r t) (sym is)
                   (told_so pid place c t (subst (λ (d : TimedCall At Out).
-                  positions.IsTold system Own Holds calls_at pid d t) show told));
+                  positions.IsTold system Own Starts Holds calls_at pid d t) show told));
               of_wait = subst (λ (r : ProgramState Place (TimedCall At Out)).
                   IsOfWait system program starts r t) (sym is)
                   (wait_so pid place c t (subst (λ (d : TimedCall At Out).
-                  positions.IsTimerOf system Own Holds pid d t) show of_timer));
+                  positions.IsTimerOf system Own Starts Holds pid d t) show of_timer));
             }
         by Ended is over =
             record {
@@ -166,11 +174,11 @@ module _ {At Request Reply Out Object Place : Type 0} (system : System At Reques
                   own_rendez pid (at_of (timed_calls system) calls_at pid) t over of_timer);
             }
 
-  -- wherever moves come
+  -- it holds of each process wherever moves come
   pub notes_come : NotesOfTicksCome system program starts
   notes_come moves pid all low =
-      let fine = wholes.fine_after (timed_calls system) program starts (timed_goes system goes) IsTick
-      (BeginsTimed system BeginsBy WaitsIn) Own (positions.Fine system Own Holds)
+      let fine = wholes.fine_after (timed_calls system) program starts (timed_goes system goes)
+      IsTick (BeginsTimed system BeginsBy WaitsIn) Own (positions.Fine system Own Starts Holds)
       (timed_lemmas.timed_invariant system goes BeginsBy WaitsIn Own Holds invariant keeps
       own_rendez) many begin moves all in
       timed_so (coarse_of whole moves) fine pid

@@ -23,8 +23,9 @@ use Rattle.timed_machines.proofs.InvariantLemmas.{timed_invariant}
 use Rattle.timed_machines.proofs.ObjectNotes.{keeps_notes}
 use Rattle.timed_machines.proofs.ProgramTimers.{notes_come}
 
-module _ {Place : Type 0} (objects : Objects) (program : Program Place TimedObjectCall TimedObjectOut)
-    (starts : List (Option Place)) (are : AreTimedPrograms objects program starts) where
+module _ {Place : Type 0} (objects : Objects)
+    (program : Program Place TimedObjectCall TimedObjectOut) (starts : List (Option Place))
+    (are : AreTimedPrograms objects program starts) where
   -- there is a start for each process
   many : length starts ≡ procs (timed_calls (object_calls objects))
   many =

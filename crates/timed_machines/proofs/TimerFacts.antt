@@ -16,10 +16,14 @@ use Rattle.timer_list.specs.Timers.{first_due, may_add, timer_of, timers_after}
 
 -- the timer of this seat alone is another
 pub record IsChange (timers changed : List Timer) (seat : ℕ) (timer : Timer) : Type 0 where
+  -- the timer of the seat is this one
   pub own : timer_of changed seat ≡ timer
+  -- each other timer is as it was
   pub others : (other : ℕ) → other ≢ seat → timer_of changed other ≡ timer_of timers other
+  -- and there are as many timers
   pub sized : length changed ≡ length timers
 
+-- writing one place of the list is such a change
 pub set_so : (timers : List Timer) (seat : ℕ) (timer : Timer) → seat < length timers
     → IsChange timers (slice_set timers seat timer) seat timer
 set_so timers seat timer low =
@@ -29,6 +33,7 @@ set_so timers seat timer low =
       sized = length-set timers seat timer;
     }
 
+-- so is no change at all
 pub stays_so : (timers : List Timer) (seat : ℕ) (timer : Timer) → timer_of timers seat ≡ timer
     → IsChange timers timers seat timer
 stays_so timers seat timer is =
@@ -55,9 +60,12 @@ added_so timers seat pid moment low unset =
 
 -- a cancelled timer is answered by what it was, and is not set
 pub record IsCancelled (timers : List Timer) (seat : ℕ) : Type 0 where
+  -- the reply is that of the timer as it was
   pub told_is : answer_to timers (Cancel seat) ≡ answer_cancelled (timer_of timers seat)
+  -- and the timer is not set after that
   pub change : IsChange timers (after timers (Cancel seat)) seat Unset
 
+-- each timer that is there is cancelled so
 pub cancelled_so : (timers : List Timer) (seat : ℕ) → seat < length timers
     → IsCancelled timers seat
 cancelled_so timers seat low = record { told_is = told_is; change = by (timer_of timers seat) refl }
@@ -94,6 +102,7 @@ pub data Expires (now : ℕ) (timers : List Timer) : Type 0 where
       → answer_to timers (Expire now) ≡ told.Ended pid
       → after timers (Expire now) ≡ slice_set timers seat Expired → Expires now timers
 
+-- each tick finds one or none
 pub expires_so : (now : ℕ) (timers : List Timer) → Expires now timers
 expires_so now timers = by (first_due now timers) refl
   where

@@ -1,6 +1,6 @@
 -- Runs of calls with deadlines and of ticks, computed: a wait that a tick ends, a tick that comes
 -- too early, a unit that comes while a tick is about to tell, and a process that ticks for ever.
-use Rattle.std.proofs.Common.{◌≡◌, ◌≢◌, ◌⊎◌, inl, inr, ◌<◌, ◌≤◌, ℕ, zero, suc, Bool, true, false}
+use Rattle.std.proofs.Common.{◌≡◌, ◌≢◌, inl, inr, ◌<◌, ℕ, zero, suc, Bool, true, false}
 use Rattle.std.proofs.Common.{Option, Some, None, List, [], ◌∷◌, Ok, Err, Result, refl, arith}
 use Rattle.std.proofs.lemmas.Bool.{false≢true}
 use Rattle.kernel_lock.specs.declared.locked.Locked.{Locked}
@@ -28,25 +28,25 @@ use Rattle.call_machines.specs.Programs.{Program, ProgramState}
 use Rattle.call_machines.specs.Programs.ProgramState.{Ended, In}
 use Rattle.call_machines.specs.Runs.{System}
 use Rattle.call_machines.specs.Schedules.{position_of, run_of}
-use Rattle.call_machines.specs.WaitTables.WaitState.{Begun, Over as WaitOver, Waits as WaitWaits}
+use Rattle.call_machines.specs.WaitTables.WaitState.{Begun, Waits as WaitWaits}
 use Rattle.sema_machines.specs.CallMachines.ReleaseState.{Releasing}
 use Rattle.sema_machines.specs.SemaRuns.CallOut.{Taken}
 use Rattle.sema_machines.specs.SemaRuns.CallState.{Gives, Takes}
 use Rattle.semaphore.specs.declared.acquiring.Semacquired.TheVariants as got
 use Rattle.object_machines.specs.ObjectCalls.{Objects}
-use Rattle.object_machines.specs.ObjectCalls.{ObjectCall, ObjectOut, ObjectReply, ObjectRequest}
+use Rattle.object_machines.specs.ObjectCalls.{ObjectOut, ObjectReply, ObjectRequest}
 use Rattle.object_machines.specs.ObjectCalls.{ObjectStates}
 use Rattle.object_machines.specs.ObjectCalls.ObjectCall.{Alone, AtSema}
 use Rattle.object_machines.specs.ObjectCalls.ObjectOut.{FromSema}
 use Rattle.object_machines.specs.OwnCalls.OwnState.{Draining}
 use Rattle.timer_machines.specs.Requests.{TimedReply, TimedRequest}
-use Rattle.timer_machines.specs.TickMachine.TickState.{Asking, Telling, Ticked}
+use Rattle.timer_machines.specs.TickMachine.TickState.{Asking, Telling}
 use Rattle.timer_machines.specs.TimedMachines.{Deadline}
-use Rattle.timer_machines.specs.TimedMachines.TimedState.{Awaits, Begins, Over, Waits}
+use Rattle.timer_machines.specs.TimedMachines.TimedState.{Awaits, Begins, Waits}
 use Rattle.timed_machines.specs.TimedCalls.{TimedObject}
 use Rattle.timed_machines.specs.TimedCalls.TimedCall.{Plain, Tick, Until}
 use Rattle.timed_machines.specs.TimedObjects.{TimedObjectCall, TimedObjectOut, timed_calls_at}
-use Rattle.std.proofs.Common.{◌∙◌, ap, length, subst}
+use Rattle.std.proofs.Common.{◌∙◌, ◌⊎◌, ap, length, subst, sym}
 use Rattle.std.specs.Prelude.{⊤, slice_index_or}
 use Rattle.sync_base.specs.declared.note.Note.TheVariants.{Alarm}
 use Rattle.semaphore.specs.declared.sema_object.SemaCall.TheVariants.{Acquire}
@@ -57,7 +57,7 @@ use Rattle.waiting.specs.declared.wait.WaitEnd.{WaitEnd}
 use Rattle.call_machines.specs.Grain.{Coarse}
 use Rattle.call_machines.specs.IdleRuns.{Idles, IsObjectIdle}
 use Rattle.call_machines.specs.Machine.{Machine, Next, Outcome}
-use Rattle.call_machines.specs.Programs.{EachBegins, MayIdleIn, goes_in_call}
+use Rattle.call_machines.specs.Programs.{ComesTo, EachBegins, MayIdleIn, goes_in_call}
 use Rattle.sema_machines.specs.Holds.Hold.{Alone as OnlyOne}
 use Rattle.sema_machines.proofs.HoldLemmas.{replied_alone}
 use Rattle.object_machines.specs.ObjectCalls.{object_calls}
@@ -69,8 +69,8 @@ use Rattle.timer_machines.specs.Requests.TimedReply.{FromDevice, FromTimers}
 use Rattle.timer_machines.specs.Requests.TimedRequest.{ToDevice, ToTimers}
 use Rattle.timer_machines.specs.TimedMachines.TimedState.{Drains}
 use Rattle.timed_machines.specs.NotesKept.{KeepsNotes}
-use Rattle.timed_machines.specs.TimedEnds.{BeginsTimed, IsOfWait, IsTick, IsToTell, IsTold, NoteComes}
-use Rattle.timed_machines.specs.TimedEnds.{timed_goes}
+use Rattle.timed_machines.specs.TimedEnds.{BeginsTimed, IsOfWait, IsTick, IsToTell, IsTold}
+use Rattle.timed_machines.specs.TimedEnds.{NoteComes, timed_goes}
 use Rattle.timed_machines.specs.TimedEnds.NoteComes.{IsOwed, IsPending}
 use Rattle.timed_machines.specs.TimedObjects.{AreTimedPrograms, TimedGoesOn, is_timed_unworn}
 
@@ -481,6 +481,62 @@ module _ (lock : Locked SemaState SemaCall SemaReply)
             space_apart = before;
           }
 
+  -- the first process is at its acquire, or takes its notes where that timed out
+  from_zero : (calls place : ℕ) → ComesTo program (Some 0) calls place
+      → (place ≡ 0) ⊎ (place ≡ 4)
+  from_zero zero place is = inl cc
+  from_zero (suc calls) place comes =
+      by (from_zero calls comes.before comes.comes) comes.answer comes.follows
+    where
+      late : (before : ℕ) → before ≡ 0 → (answer : Result TimedObjectOut Fault)
+          → next_of before answer ≡ Some place → place ≡ 4
+      late zero is (Err fault.TimedOut) follows = cc
+      late zero is other follows = absurd cc
+      late (suc before) is answer follows = absurd cc
+
+      ends : (before : ℕ) → before ≡ 4 → (answer : Result TimedObjectOut Fault)
+          → next_of before answer ≡ Some place → ⊥
+      ends zero is answer follows = cc
+      ends (suc zero) is answer follows = cc
+      ends (suc (suc zero)) is answer follows = cc
+      ends (suc (suc (suc before))) is answer follows = cc
+
+      by : (comes.before ≡ 0) ⊎ (comes.before ≡ 4) → (answer : Result TimedObjectOut Fault)
+          → next_of comes.before answer ≡ Some place → (place ≡ 0) ⊎ (place ≡ 4)
+      by (inl first) answer follows = inr (late comes.before first answer follows)
+      by (inr last) answer follows = absurd (ends comes.before last answer follows)
+
+  -- the second ticks once
+  from_one : (calls place : ℕ) → ComesTo program (Some 1) calls place → place ≡ 1
+  from_one zero place is = cc
+  from_one (suc calls) place comes =
+      absurd (by comes.before (from_one calls comes.before comes.comes) comes.answer comes.follows)
+    where
+      by : (before : ℕ) → before ≡ 1 → (answer : Result TimedObjectOut Fault)
+          → next_of before answer ≡ Some place → ⊥
+      by zero is answer follows = cc
+      by (suc zero) is answer follows = cc
+      by (suc (suc before)) is answer follows = cc
+
+  -- and the third makes no call
+  from_none : (calls place : ℕ) → ComesTo program None calls place → ⊥
+  from_none zero place is = cc
+  from_none (suc calls) place comes = from_none calls comes.before comes.comes
+
+  each_begins : EachBegins program Begins_as (Some 0 ∷ Some 1 ∷ None ∷ [])
+  each_begins zero calls place comes = by (from_zero calls place comes)
+    where
+      by : (place ≡ 0) ⊎ (place ≡ 4) → Begins_as 0 (call_of place)
+      by (inl is) = subst (λ (n : ℕ). Begins_as 0 (call_of n)) (sym is) it_begins
+      by (inr is) = subst (λ (n : ℕ). Begins_as 0 (call_of n)) (sym is) tt
+  each_begins (suc zero) calls place comes =
+      subst (λ (n : ℕ). Begins_as 1 (call_of n)) (sym (from_one calls place comes)) refl
+  each_begins (suc (suc zero)) calls place comes = absurd (from_none calls place comes)
+  each_begins (suc (suc (suc pid))) calls place comes = absurd (from_none calls place comes)
+
+  the_laws_are_of_them : AreTimedPrograms objects program (Some 0 ∷ Some 1 ∷ None ∷ [])
+  the_laws_are_of_them = they_begin (Some 0 ∷ Some 1 ∷ None ∷ []) each_begins refl
+
 -- ---- what is worn out
 
 grants_are_worn : is_timed_unworn (ToDevice (OfSema 0 (OnlyOne (Acquire 0))))
@@ -502,6 +558,11 @@ data TakesThem : Type 0 where
   Taking : TakesThem
   Again : TakesThem
 
+-- it begins at its first state
+abbrev IsFirst : TakesThem → Type 0
+IsFirst First = ⊤
+IsFirst other = ⊥
+
 abbrev takes_does : TakesThem → Next ⊥ Unit
 takes_does First = Next.Sleep (rendez 0) 0
 takes_does Taking = Next.Drain
@@ -515,22 +576,31 @@ takes_goes_on Again came = Again
 abbrev takes_them : Machine TakesThem ⊥ ⊥ Unit
 takes_them = record { does = takes_does; goes_on = takes_goes_on }
 
-it_may_lose_one : KeepsNotes takes_them → ⊥
+it_may_lose_one : KeepsNotes takes_them IsFirst → ⊥
 it_may_lose_one keeps =
-    keeps.takes_none First Taking 1 (rendez 0, 0, refl)
+    keeps.takes_none First First Taking 0 1 tt refl (rendez 0, 0, refl)
     (record { between = First; before = refl; came = Outcome.Went; is = refl }) refl
 
 -- and one that sleeps on after notes ended its sleep
 abbrev sleeps_on : Machine TakesThem ⊥ ⊥ Unit
 sleeps_on = record { does = λ at. Next.Sleep (rendez 0) 0; goes_on = λ at came. at }
 
-it_may_sleep_on : KeepsNotes sleeps_on → ⊥
+it_may_sleep_on : KeepsNotes sleeps_on IsFirst → ⊥
 it_may_sleep_on keeps =
-    keeps.sleeps_no_more First First no_notes 0 (rendez 0, 0, refl) refl (rendez 0, 0, refl)
+    keeps.sleeps_no_more First First First no_notes 0 0 tt refl (rendez 0, 0, refl) refl
+    (rendez 0, 0, refl)
 
 -- it sleeps again one step later
-it_may_sleep_again : KeepsNotes takes_them → ⊥
+it_may_sleep_again : KeepsNotes takes_them IsFirst → ⊥
 it_may_sleep_again keeps =
-    keeps.sleeps_no_more First Again no_notes 1 (rendez 0, 0, refl)
+    keeps.sleeps_no_more First First Again no_notes 0 1 tt refl (rendez 0, 0, refl)
     (record { between = Taking; before = refl; came = Outcome.Went; is = refl })
     (rendez 0, 0, refl)
+
+-- but calls that begin elsewhere owe nothing
+none_begins : KeepsNotes takes_them (λ at. ⊥)
+none_begins =
+    record {
+      takes_none = λ start from at before times starts began asleep comes does. starts;
+      sleeps_no_more = λ start from at set before times starts began asleep comes again. starts;
+    }

@@ -1,5 +1,5 @@
--- What a call owes that is to have a deadline: the note of a tick ends its wait, or it is there when
--- the call is over.
+-- What a call owes that is to have a deadline: the note of a tick ends its wait, or it is there
+-- when the call is over.
 use Rattle.std.specs.Prelude.{◌≡◌, ℕ, zero, suc, Err}
 use Rattle.sync_base.specs.declared.fault.Fault.TheVariants as fault
 use Rattle.sync_base.specs.declared.ids.RendezId.{RendezId}
@@ -26,10 +26,12 @@ module _ {At Request Reply Out : Type 0} (machine : Machine At Request Reply Out
   abbrev pub ended_by : NoteSet → At → At
   ended_by set at = machine.goes_on at (Outcome.Slept (Err (fault.Interrupted set)))
 
-  -- A call that has slept takes no notes without a sleep; and one whose sleep was ended by notes
-  -- sleeps no more.
-  pub record KeepsNotes : Type 0 where
-    pub takes_none : (from at : At) (times : ℕ) → IsAsleep from → ComesFrom from times at
+  -- Of calls that begin so: one that has slept takes no notes without a sleep; and one whose sleep
+  -- was ended by notes sleeps no more.
+  pub record KeepsNotes (Starts : At → Type 0) : Type 0 where
+    pub takes_none : (start from at : At) (before times : ℕ) → Starts start
+        → ComesFrom start before from → IsAsleep from → ComesFrom from times at
         → machine.does at ≡ Next.Drain → ⊥
-    pub sleeps_no_more : (from at : At) (set : NoteSet) (times : ℕ) → IsAsleep from
-        → ComesFrom (ended_by set from) times at → IsAsleep at → ⊥
+    pub sleeps_no_more : (start from at : At) (set : NoteSet) (before times : ℕ) → Starts start
+        → ComesFrom start before from → IsAsleep from → ComesFrom (ended_by set from) times at
+        → IsAsleep at → ⊥

@@ -1,6 +1,6 @@
--- Calls with deadlines and ticks, over the calls of any system: each is a call of that system, with
--- a deadline or without one, or a tick. After tsemacquire in semacquire(2) and tsleep of the kernel.
--- Own: a tick is a call.
+-- Calls with deadlines and ticks, over the calls of any system: each is a call of that system,
+-- with a deadline or without one, or a tick. After tsemacquire in semacquire(2) and tsleep of the
+-- kernel. Own: a tick is a call.
 use Rattle.std.specs.Prelude.{ℕ, List, map, replicate}
 use Rattle.timer_list.specs.declared.timer_object.Timer.{Timer}
 use Rattle.timer_list.specs.declared.timer_object.Timer.TheVariants.{Unset}
@@ -57,9 +57,9 @@ module _ {At Request Reply Out Object : Type 0} (system : System At Request Repl
       Tick now (tick_goes_on (procs system) (procs system) now at Outcome.Went)
   call_goes_on at came = at
 
-  abbrev pub timed_answer : TimedObject Object → TimedRequest Request → TimedReply Reply
-  timed_answer s (ToDevice request) = FromDevice (system.answer s.device request)
-  timed_answer s (ToTimers call) = FromTimers (timing.answer_to s.timers call)
+  abbrev pub timed_reply : TimedObject Object → TimedRequest Request → TimedReply Reply
+  timed_reply s (ToDevice request) = FromDevice (system.answer s.device request)
+  timed_reply s (ToTimers call) = FromTimers (timing.answer_to s.timers call)
 
   abbrev pub timed_after : TimedObject Object → TimedRequest Request → TimedObject Object
   timed_after s (ToDevice request) = record s { device = system.after s.device request }
@@ -72,7 +72,7 @@ module _ {At Request Reply Out Object : Type 0} (system : System At Request Repl
   timed_calls =
       record {
         machine = record { does = call_does; goes_on = call_goes_on };
-        answer = timed_answer;
+        answer = timed_reply;
         after = timed_after;
         opening = record { device = system.opening; timers = replicate (procs system) Unset };
         rendez = system.rendez;

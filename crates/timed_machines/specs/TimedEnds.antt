@@ -43,8 +43,13 @@ module _ {At Request Reply Out Object : Type 0} (system : System At Request Repl
       at ≡ asks_on (procs system) (procs system) now 0
   BeginsTimed BeginsBy WaitsIn pid other = ⊥
 
-  -- A call that waits goes on where its object lets it, with a deadline and without. One that awaits
-  -- the note of a tick always goes on.
+  -- a call that may have a deadline begins so
+  abbrev pub MayHaveDeadline : (ℕ → At → Type 0) → (ℕ → At → RendezId → Type 0) → At → Type 0
+  MayHaveDeadline BeginsBy WaitsIn at =
+      (pid : ℕ) × (rendez : RendezId) × BeginsBy pid at × WaitsIn pid at rendez
+
+  -- A call that waits goes on where its object lets it, with a deadline and without. One that
+  -- awaits the note of a tick always goes on.
   abbrev pub timed_goes : (Object → At → Bool) → TimedObject Object → TimedCall At Out → Bool
   timed_goes goes s (Plain at) = goes s.device at
   timed_goes goes s (Until until (Waits at failed)) = goes s.device at

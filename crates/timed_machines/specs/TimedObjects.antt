@@ -1,5 +1,5 @@
--- Calls with deadlines and ticks at several semaphores and a tag space, and when processes that make
--- them deadlock.
+-- Calls with deadlines and ticks at several semaphores and a tag space, and when processes that
+-- make them deadlock.
 use Rattle.std.specs.Prelude.{◌≡◌, Bool, true, Option, List, length}
 use Rattle.call_machines.specs.Ends.{NoRunDeadlocks}
 use Rattle.call_machines.specs.GrainEnds.{WakeupsAreDue}

@@ -1,0 +1,81 @@
+-- What the answer `ends` by calls says of the library's calls.
+use Rattle.std.specs.Prelude.{◌≡◌, ℕ, true, List, Option, Some, None}
+use Rattle.scripts.specs.Device.{Devices}
+use Rattle.searches.specs.declared.order.Order.{Order}
+use Rattle.searches.specs.declared.verdict.Verdict.TheVariants as verdict
+use Rattle.searches.specs.Verdict.{HoldsIn}
+use Rattle.calls.specs.Machine.{system_of}
+use Rattle.calls.specs.Program.{IsProgram, Program}
+use Rattle.call_machines.specs.Programs.{rests_at}
+use Rattle.call_machines.specs.Replies.{SuchStopAtRest}
+use Rattle.object_machines.specs.ObjectCalls.{Objects}
+use Rattle.object_machines.specs.ObjectEnds.{LeavesUnworn}
+use Rattle.explored_calls.specs.LibraryCalls.{AreItsObjects, IsCovered, Spot, is_at_head}
+use Rattle.explored_calls.specs.LibraryCalls.{library_of}
+use Rattle.p9explore.specs.declared.asked.Asked.{Asked}
+use Rattle.p9explore.specs.declared.run.TheConstants.{GOOD}
+use Rattle.p9explore.specs.Answering.{Ends, IsInput}
+use Rattle.p9explore.specs.ByCalls.{lowered}
+use Rattle.p9explore.specs.LaidLines.{laid_program}
+use Rattle.p9explore.specs.Laying.{BlocksRead, blocks_spelled}
+use Rattle.p9explore.specs.Laying.BlocksRead.{Lays, LaysNot}
+use Rattle.p9explore.specs.Reading.{Read, spelled}
+use Rattle.p9explore.specs.Reading.Read.{FaultAt, Spells}
+use Rattle.p9explore.specs.Source.{source_of}
+
+-- ---- the program of calls of a script
+
+abbrev pub calls_read : Read → BlocksRead → Option Program
+calls_read (Spells program) blocks = Some (lowered program)
+calls_read (FaultAt number) (Lays laid) = Some (laid_program laid)
+calls_read (FaultAt number) (LaysNot other) = None
+
+-- Own: what a script spells by calls, with blocks or without.
+abbrev pub calls_spelled : List ℕ → Option Program
+calls_spelled script = calls_read (spelled script) (blocks_spelled script)
+
+-- Each program of calls that a script spells can be made: its calls name what is there, and its
+-- numbers are in range.
+abbrev pub ScriptsCanBeMade : Type 0
+ScriptsCanBeMade =
+    (script : List ℕ) (program : Program)
+    → calls_spelled script ≡ Some program
+    → IsProgram program
+
+-- ---- what `ends` says
+
+-- No run of the library's calls that a program of covered calls makes deadlocks, whatever values
+-- are given and at whatever objects that are the program's: where such a run has stopped, each
+-- process has ended or waits at the head of its loop. This is of runs in which no number of a
+-- device is worn out.
+abbrev pub NoCoveredRunDeadlocks : Program → Type 0
+NoCoveredRunDeadlocks program =
+    (given : Spot → ℕ) (objects : Objects)
+    → IsCovered program
+    → AreItsObjects program objects
+    → SuchStopAtRest (library_of program given objects) LeavesUnworn
+    (λ state. rests_at (is_at_head program) state ≡ true)
+
+-- So it is of what a script spells, where the verdict by calls is that it ends.
+abbrev pub ExploredScriptsEnd : Type 0
+ExploredScriptsEnd =
+    (script : List ℕ) (program : Program) (order : Order) (most states : ℕ)
+    → calls_spelled script ≡ Some program
+    → HoldsIn (system_of program) order most (verdict.Ends states)
+    → NoCoveredRunDeadlocks program
+
+-- a run has read a script whose program of calls makes no run that deadlocks
+pub record HasReadSuch (devices : Devices) : Type 0 where
+  pub input : List ℕ
+  pub read : IsInput devices input
+  pub program : Program
+  pub spells : calls_spelled (source_of input).text ≡ Some program
+  pub ends : NoCoveredRunDeadlocks program
+
+-- And so it is of what a run by calls has read that ends with the status 0.
+abbrev pub GoodRunsEnd : Type 0
+GoodRunsEnd =
+    (asked : Asked) (devices : Devices)
+    → asked.by_calls ≡ true
+    → Ends asked devices GOOD
+    → HasReadSuch devices

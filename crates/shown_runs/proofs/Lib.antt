@@ -1,0 +1,20 @@
+pub mod Acts
+pub mod CallSteps
+pub mod DeadlockLemmas
+pub mod Following
+pub mod Grants
+pub mod LawLemmas
+pub mod Opening
+pub mod OwnSteps
+pub mod Played
+pub mod Quiet
+pub mod QuietSteps
+pub mod ReleaseFacts
+pub mod ReleaseSteps
+pub mod Serving
+pub mod ServingSteps
+pub mod ShownLemmas
+pub mod StuckLemmas
+pub mod UnitSteps
+mod WorkedRuns
+pub mod Worlds

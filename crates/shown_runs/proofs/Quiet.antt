@@ -1,0 +1,429 @@
+-- A position of the library's calls that is quiet: no wakeup is owed, and whoever waits is posted
+-- and asleep. And what stays of it while a process acts.
+use Rattle.std.proofs.Common.{◌≡◌, ◌≢◌, ◌⊎◌, inl, inr, ℕ, ◌<◌, ◌≤◌, Bool}
+use Rattle.std.proofs.Common.{if◌then◌else◌, false, Option, Some, None, List, [], length}
+use Rattle.std.proofs.Common.{refl, sym, ap, ◌∙◌, subst, arith}
+use Rattle.std.specs.Prelude.{slice_get, slice_index}
+use Rattle.sync_base.specs.declared.note.NoteSet.{NoteSet}
+use Rattle.sleep_core.specs.declared.phase.Phase.TheVariants as phase
+use Rattle.sleep_core.specs.State.{flags_of, level_of, nobody, phase_of, posted_as, posted_of}
+use Rattle.sleep_core.proofs.Frames.{same_or_not}
+use Rattle.semaphore.specs.declared.sema_object.Stage.{Stage}
+use Rattle.semaphore.specs.declared.sema_object.Stage.TheVariants.{Idle, Waiting}
+use Rattle.semaphore.specs.Units.{SemaState, grants_of, stage_of}
+use Rattle.calls.specs.declared.call.Call.TheVariants as call
+use Rattle.calls.specs.declared.line.Line.{Line}
+use Rattle.calls.specs.declared.process.Want.{Want}
+use Rattle.calls.specs.declared.process.Want.TheVariants as want
+use Rattle.calls.specs.Program.{Program, procs_of}
+use Rattle.call_machines.specs.Programs.{ProgramState}
+use Rattle.call_machines.specs.Programs.ProgramState.{In}
+use Rattle.call_machines.specs.Schedules.{Position, state_of}
+use Rattle.call_machines.specs.WaitTables.WaitState.{Waits}
+use Rattle.sema_machines.specs.SemaRuns.CallState.{Takes}
+use Rattle.object_machines.specs.ObjectCalls.{ObjectCall, ObjectReply, ObjectRequest, ObjectStates}
+use Rattle.object_machines.specs.ObjectCalls.{Objects, sema_of, sema_state}
+use Rattle.object_machines.specs.ObjectCalls.ObjectCall.{AtSema}
+use Rattle.object_machines.specs.ObjectEnds.{AreApart, LeavesUnworn, sema_row}
+use Rattle.explored_calls.specs.LibraryCalls.{AreItsObjects, Spot, library_of}
+use Rattle.explored_calls.proofs.Queued.{Queued, is_for}
+use Rattle.shown_runs.specs.ShownRuns.{arrived, rendez_at, spot_of}
+use Rattle.shown_runs.proofs.Acts.{IsSized, Reached, Stays, SuchSystem}
+
+-- the system of the library's calls, and the replies by which nothing is worn out
+abbrev pub such_calls : Program → (Spot → ℕ) → Objects
+    → SuchSystem (ProgramState Spot ObjectCall) ObjectRequest ObjectReply Unit ObjectStates
+such_calls program given objects =
+    record { system = library_of program given objects; comes = LeavesUnworn }
+
+module _ (program : Program) (given : Spot → ℕ) (objects : Objects) where
+  -- the semaphore with this number, as the position has it
+  abbrev pub sema_at : Position (library_of program given objects) → ℕ → SemaState
+  sema_at at sema = sema_state objects at.object sema
+
+  -- the Rendez in which a process waits for a semaphore
+  abbrev pub rendez : ℕ → ℕ → ℕ
+  rendez sema pid = (rendez_at objects sema pid).0
+
+  -- ---- one process
+
+  -- what the world and the semaphores have of a process that waits for this, and stands so at its
+  -- semaphore
+  pub record Rests (at : Position (library_of program given objects)) (pid : ℕ)
+      (waits : Option Want) (how : Stage) (set : NoteSet) (most : ℕ) : Type 0 where
+    -- it has no mark, and these notes
+    pub flags_is : flags_of at.world pid ≡ record { wake = false; notes = set }
+    -- it is posted where it waits, and nowhere else
+    pub posted : (sema : ℕ) → sema < length program.values
+        → posted_of at.world (rendez sema pid)
+        ≡ (if is_for (want.Unit sema) waits then posted_as pid else nobody)
+    -- no level is above the number of its grants
+    pub level : (sema : ℕ) → sema < length program.values
+        → level_of at.world (rendez sema pid) ≤ grants_of (sema_at at sema) pid
+    -- its seat stands so where it waits, and is idle elsewhere
+    pub stage : (sema : ℕ) → sema < length program.values
+        → stage_of (sema_at at sema) pid ≡ (if is_for (want.Unit sema) waits then how else Idle)
+    -- no seat of it has more grants than this
+    pub few : (sema : ℕ) → sema < length program.values
+        → grants_of (sema_at at sema) pid ≤ most
+
+  -- it has gone on to a place, and has not made the call there
+  pub record IsIdle (at : Position (library_of program given objects)) (pid place : ℕ) : Type 0
+    where
+      -- it is about to make the call of the place
+      pub state_is : state_of (library_of program given objects) at pid
+          ≡ arrived program given objects pid place
+      -- it is in no sleep and no wakeup
+      pub phase_is : phase_of at.world pid ≡ phase.Idle
+
+  -- or sleeps there, with the number of its grants
+  pub record IsAsleep (at : Position (library_of program given objects)) (pid place sema : ℕ)
+      : Type 0 where
+    -- the line of the place where it waits
+    pub line : Line
+    -- the program has that line there
+    pub line_is : slice_get program.lines place ≡ Some line
+    -- its call is a semacquire without a deadline
+    pub made : line.call ≡ call.Acquire sema None
+    -- that semaphore is one of the program's
+    pub low : sema < length program.values
+    -- its machine waits with the number of its grants
+    pub state_is : state_of (library_of program given objects) at pid
+        ≡ In (spot_of pid place) (AtSema sema (Takes pid (Waits (grants_of (sema_at at sema) pid))))
+    -- it is asleep in the Rendez of its seat
+    pub phase_is : phase_of at.world pid
+        ≡ phase.Asleep (rendez_at objects sema pid) (grants_of (sema_at at sema) pid)
+
+  -- by what it waits for: nothing, or a unit
+  abbrev pub StandsBy : Position (library_of program given objects) → ℕ → ℕ → Option Want → Type 0
+  StandsBy at pid place None = IsIdle at pid place
+  StandsBy at pid place (Some (want.Unit sema)) = IsAsleep at pid place sema
+  StandsBy at pid place (Some (want.Partner tag)) = ⊥
+
+  -- how a process stands, by its place, its wait and its notes
+  pub record Stands (at : Position (library_of program given objects)) (pid place : ℕ)
+      (waits : Option Want) (set : NoteSet) (most : ℕ) : Type 0 where
+    -- it stands by what it waits for
+    pub stands : StandsBy at pid place waits
+    -- the world and its seats have it so
+    pub rests : Rests at pid waits Waiting set most
+
+  -- ---- one semaphore
+
+  -- it has these units, these wait, and these are to be named
+  pub record IsLined (s : SemaState) (units : ℕ) (line names : List ℕ) : Type 0 where
+    -- these are the units that nobody has
+    pub value : s.value ≡ units
+    -- these wait, the first to come first
+    pub waiters : s.waiters ≡ line
+    -- these were granted a unit, and are to be named
+    pub unnamed : s.unnamed ≡ names
+    -- each process has a seat there
+    pub stages : length s.stages ≡ procs_of program
+    -- each seat has its count of grants
+    pub grants : length s.grants ≡ procs_of program
+
+  -- ---- a position
+
+  -- Each process stands as the explorer has it, with no more grants than this; nobody is to be
+  -- named; and these are the choices to come.
+  pub record Quiet (q : Queued) (most : ℕ) (ways : List Bool)
+      (at : Position (library_of program given objects)) : Type 0 where
+    -- some schedule of the library comes here
+    pub reached : Reached (such_calls program given objects) at
+    -- it has a place for each process and each Rendez
+    pub sized : IsSized (such_calls program given objects) at
+    -- it has a semaphore for each of the program's
+    pub many : length at.object.semas ≡ length program.values
+    -- the lines have a value for each semaphore
+    pub counted : length q.values ≡ length program.values
+    -- these are the choices to come
+    pub choices : at.object.choices ≡ ways
+    -- each process stands as the lines say
+    pub each : (pid : ℕ) → pid < procs_of program
+        → Stands at pid (q.place pid) (q.waits pid) (q.notes pid) most
+    -- each semaphore is as the lines say, and names nobody
+    pub lined : (sema : ℕ) → sema < length program.values
+        → IsLined (sema_at at sema) (slice_index q.values sema) (q.line (want.Unit sema)) []
+
+  -- ---- what stays
+
+  -- what a process has at a semaphore
+  pub record Frame (at next : Position (library_of program given objects)) (pid sema : ℕ)
+      : Type 0 where
+    -- the same process is posted there
+    pub posted : posted_of next.world (rendez sema pid) ≡ posted_of at.world (rendez sema pid)
+    -- the level there is the same
+    pub level : level_of next.world (rendez sema pid) ≡ level_of at.world (rendez sema pid)
+    -- its seat stands as it did
+    pub stage : stage_of (sema_at next sema) pid ≡ stage_of (sema_at at sema) pid
+    -- its seat has as many grants
+    pub grants : grants_of (sema_at next sema) pid ≡ grants_of (sema_at at sema) pid
+
+  -- what stays twice stays after both
+  pub frame_more : (at mid next : Position (library_of program given objects)) (pid sema : ℕ)
+      → Frame at mid pid sema → Frame mid next pid sema → Frame at next pid sema
+  frame_more at mid next pid sema one two =
+      record {
+        posted = two.posted ∙ one.posted;
+        level = two.level ∙ one.level;
+        stage = two.stage ∙ one.stage;
+        grants = two.grants ∙ one.grants;
+      }
+
+  -- one semaphore has become this, and the others stay
+  pub record Changed (at next : Position (library_of program given objects)) (sema : ℕ)
+      (t : SemaState) : Type 0 where
+    -- there are as many semaphores as before
+    pub many : length next.object.semas ≡ length at.object.semas
+    -- the one is this now
+    pub here : sema_at next sema ≡ t
+    -- each other one is as it was
+    pub elsewhere : (other : ℕ) → other ≢ sema → sema_at next other ≡ sema_at at other
+    -- the choices to come stay too
+    pub choices : next.object.choices ≡ at.object.choices
+
+  -- what a semaphore has of a seat stays
+  pub record SameSeat (s t : SemaState) (pid : ℕ) : Type 0 where
+    -- the seat stands as it did
+    pub stage : stage_of t pid ≡ stage_of s pid
+    -- and has as many grants as before
+    pub grants : grants_of t pid ≡ grants_of s pid
+
+  -- where no object changes no semaphore does
+  pub unchanged : (at next : Position (library_of program given objects)) (sema : ℕ)
+      → next.object ≡ at.object → Changed at next sema (sema_at at sema)
+  unchanged at next sema same =
+      record {
+        many = ap (λ (o : ObjectStates). length o.semas) same;
+        here = ap (λ (o : ObjectStates). sema_state objects o sema) same;
+        elsewhere = λ other apart. ap (λ (o : ObjectStates). sema_state objects o other) same;
+        choices = ap (λ (o : ObjectStates). o.choices) same;
+      }
+
+  -- ---- a process of which little changes
+
+  -- a process of which only notes change rests as it did
+  pub rests_still : (at next : Position (library_of program given objects)) (pid : ℕ)
+      (waits : Option Want) (how : Stage) (set held : NoteSet) (most more : ℕ)
+      → Rests at pid waits how set most
+      → ((sema : ℕ) → sema < length program.values → Frame at next pid sema)
+      → flags_of next.world pid ≡ record { wake = false; notes = held } → most ≤ more
+      → Rests next pid waits how held more
+  rests_still at next pid waits how set held most more rests frame flags_is grows =
+      record {
+        flags_is = flags_is;
+        posted = λ sema low. (frame sema low).posted ∙ rests.posted sema low;
+        level = λ sema low.
+            let f = frame sema low in
+            let l = rests.level sema low in
+            let level = f.level in
+            let grants = f.grants in
+            rw (level, grants) l;
+        stage = λ sema low. (frame sema low).stage ∙ rests.stage sema low;
+        few = λ sema low.
+            let grants = (frame sema low).grants in
+            let few = rests.few sema low in
+            rw grants (omega arith);
+      }
+
+  -- at one semaphore it is this now
+  pub record Own (next : Position (library_of program given objects)) (pid sema : ℕ)
+      (waits : Option Want) (how : Stage) (most : ℕ) : Type 0 where
+    -- it is posted there if it waits there
+    pub posted : posted_of next.world (rendez sema pid)
+        ≡ (if is_for (want.Unit sema) waits then posted_as pid else nobody)
+    -- no level is above the number of its grants
+    pub level : level_of next.world (rendez sema pid) ≤ grants_of (sema_at next sema) pid
+    -- its seat stands so if it waits there
+    pub stage : stage_of (sema_at next sema) pid
+        ≡ (if is_for (want.Unit sema) waits then how else Idle)
+    -- it has no more grants than this
+    pub few : grants_of (sema_at next sema) pid ≤ most
+
+  -- a process that changes at one semaphore alone rests as it should
+  pub rests_own : (at next : Position (library_of program given objects)) (pid sema : ℕ)
+      (waits now : Option Want) (before how : Stage) (set held : NoteSet) (most more : ℕ)
+      → Rests at pid waits before set most
+      → ((other : ℕ) → other < length program.values → other ≢ sema → Frame at next pid other)
+      → ((other : ℕ) → other ≢ sema → is_for (want.Unit other) waits ≡ false)
+      → ((other : ℕ) → other ≢ sema → is_for (want.Unit other) now ≡ false)
+      → Own next pid sema now how more
+      → flags_of next.world pid ≡ record { wake = false; notes = held } → most ≤ more
+      → Rests next pid now how held more
+  rests_own at next pid sema waits now before how set held most more rests frame was_out out own
+      flags_is grows =
+      record {
+        flags_is = flags_is;
+        posted = λ other low. posted_by other low (same_or_not other sema);
+        level = λ other low. level_by other low (same_or_not other sema);
+        stage = λ other low. stage_by other low (same_or_not other sema);
+        few = λ other low. few_by other low (same_or_not other sema);
+      }
+    where
+      posted_by : (other : ℕ) → other < length program.values → (other ≡ sema) ⊎ (other ≢ sema)
+          → posted_of next.world (rendez other pid)
+          ≡ (if is_for (want.Unit other) now then posted_as pid else nobody)
+      posted_by other low (inl same) =
+          subst (λ (n : ℕ). posted_of next.world (rendez n pid)
+          ≡ (if is_for (want.Unit n) now then posted_as pid else nobody)) (sym same) own.posted
+      posted_by other low (inr apart) =
+          (frame other low apart).posted
+          ∙ (rests.posted other low ∙ rw (was_out other apart, out other apart) refl)
+
+      level_by : (other : ℕ) → other < length program.values → (other ≡ sema) ⊎ (other ≢ sema)
+          → level_of next.world (rendez other pid) ≤ grants_of (sema_at next other) pid
+      level_by other low (inl same) =
+          subst (λ (n : ℕ). level_of next.world (rendez n pid) ≤ grants_of (sema_at next n) pid)
+          (sym same) own.level
+      level_by other low (inr apart) =
+          let f = frame other low apart in
+          let l = rests.level other low in
+          let level = f.level in
+          let grants = f.grants in
+          rw (level, grants) l
+
+      stage_by : (other : ℕ) → other < length program.values → (other ≡ sema) ⊎ (other ≢ sema)
+          → stage_of (sema_at next other) pid
+          ≡ (if is_for (want.Unit other) now then how else Idle)
+      stage_by other low (inl same) =
+          subst (λ (n : ℕ). stage_of (sema_at next n) pid
+          ≡ (if is_for (want.Unit n) now then how else Idle)) (sym same) own.stage
+      stage_by other low (inr apart) =
+          (frame other low apart).stage
+          ∙ (rests.stage other low ∙ rw (was_out other apart, out other apart) refl)
+
+      few_by : (other : ℕ) → other < length program.values → (other ≡ sema) ⊎ (other ≢ sema)
+          → grants_of (sema_at next other) pid ≤ more
+      few_by other low (inl same) =
+          subst (λ (n : ℕ). grants_of (sema_at next n) pid ≤ more) (sym same) own.few
+      few_by other low (inr apart) =
+          let grants = (frame other low apart).grants in
+          let few = rests.few other low in
+          rw grants (omega arith)
+
+  -- a process that does not act stands as before
+  pub stands_still : (at next : Position (library_of program given objects)) (pid place : ℕ)
+      (waits : Option Want) (set held : NoteSet) (most more : ℕ)
+      → Stands at pid place waits set most
+      → state_of (library_of program given objects) next pid
+      ≡ state_of (library_of program given objects) at pid
+      → phase_of next.world pid ≡ phase_of at.world pid
+      → flags_of next.world pid ≡ record { wake = false; notes = held }
+      → ((sema : ℕ) → sema < length program.values → Frame at next pid sema)
+      → most ≤ more
+      → Stands next pid place waits held more
+  stands_still at next pid place waits set held most more old state stage flags frame grows =
+      record {
+        stands = by waits old.stands;
+        rests = rests_still at next pid waits Waiting set held most more old.rests frame flags
+            grows;
+      }
+    where
+      by : (has : Option Want) → StandsBy at pid place has → StandsBy next pid place has
+      by None idle =
+          record { state_is = state ∙ idle.state_is; phase_is = stage ∙ idle.phase_is }
+      by (Some (want.Unit sema)) asleep =
+          record {
+            line = asleep.line;
+            line_is = asleep.line_is;
+            made = asleep.made;
+            low = asleep.low;
+            state_is = state ∙ (asleep.state_is
+                ∙ ap (λ (n : ℕ). In (spot_of pid place) (AtSema sema (Takes pid (Waits n))))
+                (sym (frame sema asleep.low).grants));
+            phase_is = stage ∙ (asleep.phase_is
+                ∙ ap (phase.Asleep (rendez_at objects sema pid))
+                (sym (frame sema asleep.low).grants));
+          }
+      by (Some (want.Partner tag)) none = absurd none
+
+  -- ---- no two seats have a Rendez in common
+
+  module _ (are : AreItsObjects program objects) where
+    seat_low : (sema pid : ℕ) → sema < length program.values → pid < procs_of program
+        → pid < (sema_of objects sema).sema.procs
+    seat_low sema pid low below =
+        let size : (sema_of objects sema).sema.procs ≡ procs_of program =
+        (are.world.semas sema (rw are.semas_are low)).procs_are ∙ are.procs_are in
+        rw size below
+
+    -- two seats that differ have two Rendez
+    pub rendez_apart : (sema other pid third : ℕ)
+        → sema < length program.values → other < length program.values
+        → pid < procs_of program → third < procs_of program
+        → (sema ≢ other) ⊎ (pid ≢ third)
+        → rendez sema pid ≢ rendez other third
+    rendez_apart sema other pid third low low_other below below_third differs =
+        by (same_or_not sema other)
+      where
+        by_rows : AreApart (sema_row objects sema) (sema_row objects other)
+            → rendez sema pid ≢ rendez other third
+        by_rows (inl before) =
+            let one = seat_low sema pid low below in
+            let two = seat_low other third low_other below_third in
+            λ same. omega arith
+        by_rows (inr behind) =
+            let one = seat_low sema pid low below in
+            let two = seat_low other third low_other below_third in
+            λ same. omega arith
+
+        by_seats : sema ≡ other → (sema ≢ other) ⊎ (pid ≢ third)
+            → rendez sema pid ≢ rendez other third
+        by_seats same (inl apart) = absurd (apart same)
+        by_seats same (inr apart) =
+            let first : (sema_of objects sema).sema.first ≡ (sema_of objects other).sema.first =
+            ap (λ (n : ℕ). (sema_of objects n).sema.first) same in
+            λ equal. apart (omega arith)
+
+        by : (sema ≡ other) ⊎ (sema ≢ other) → rendez sema pid ≢ rendez other third
+        by (inl same) = by_seats same differs
+        by (inr apart) =
+            by_rows (are.world.semas_apart sema other (rw are.semas_are low)
+            (rw are.semas_are low_other) apart)
+
+    -- what a process has at a semaphore stays, if acts are of another seat
+    pub frame_by : (at next : Position (library_of program given objects))
+        (seat sema : ℕ) (t : SemaState) (pid other : ℕ)
+        → ((r : ℕ) → r ≢ rendez sema seat → posted_of next.world r ≡ posted_of at.world r)
+        → ((r : ℕ) → r ≢ rendez sema seat → level_of next.world r ≡ level_of at.world r)
+        → Changed at next sema t
+        → sema < length program.values → other < length program.values
+        → seat < procs_of program → pid < procs_of program
+        → (other ≢ sema) ⊎ (pid ≢ seat)
+        → (other ≡ sema → SameSeat (sema_at at sema) t pid)
+        → Frame at next pid other
+    frame_by at next seat sema t pid other posted levels changed low low_other below below_pid
+        differs same =
+        record {
+          posted = posted (rendez other pid) far;
+          level = levels (rendez other pid) far;
+          stage = (seat_by (same_or_not other sema)).stage;
+          grants = (seat_by (same_or_not other sema)).grants;
+        }
+      where
+        far : rendez other pid ≢ rendez sema seat
+        far = rendez_apart other sema pid seat low_other low below_pid below differs
+
+        seat_by : (other ≡ sema) ⊎ (other ≢ sema)
+            → SameSeat (sema_at at other) (sema_at next other) pid
+        seat_by (inl is) =
+            subst (λ (n : ℕ). SameSeat (sema_at at n) (sema_at next n) pid) (sym is)
+            (subst (λ (s : SemaState). SameSeat (sema_at at sema) s pid) (sym changed.here)
+            (same is))
+        seat_by (inr apart) =
+            subst (λ (s : SemaState). SameSeat (sema_at at other) s pid)
+            (sym (changed.elsewhere other apart)) (record { stage = refl; grants = refl })
+
+    -- the same of the acts of one process
+    pub frame_far : (at next : Position (library_of program given objects))
+        (mover seat sema : ℕ) (t : SemaState) (pid other : ℕ)
+        → Stays (such_calls program given objects) mover seat (rendez sema seat) at next
+        → Changed at next sema t
+        → sema < length program.values → other < length program.values
+        → seat < procs_of program → pid < procs_of program
+        → (other ≢ sema) ⊎ (pid ≢ seat)
+        → (other ≡ sema → SameSeat (sema_at at sema) t pid)
+        → Frame at next pid other
+    frame_far at next mover seat sema t pid other stays =
+        frame_by at next seat sema t pid other stays.posted stays.levels

@@ -1,0 +1,33 @@
+//! What the explorer's machine shows is of the library's calls. Each law is a function that does
+//! nothing: its contract is the law.
+ghost use Rattle.shown_runs.specs.ShownRuns.{
+  NoneIsStuck,
+  ReachedIsReached,
+  ShownAreRuns,
+  StuckIsDeadlock,
+};
+
+/// Each schedule of the explorer's machine is made by a run of the library's calls, for some list
+/// of choices: at its end each process has ended, or is about to make its call, or sleeps in it,
+/// just as the position has it. Covered are schedules that do not end the program, and in which no
+/// grants of a seat are worn out; and semaphores, notes, drains, choices and loops.
+pub fn schedules_are_runs()
+    ensures { ShownAreRuns }
+{}
+
+/// Where the machine is stuck after a schedule, such a run has stopped and is a deadlock: each
+/// process that the position has waiting waits in that call for ever, and one of them not at the
+/// head of its loop.
+pub fn stuck_is_a_deadlock()
+    ensures { StuckIsDeadlock }
+{}
+
+/// So if no run of the library's calls deadlocks, whatever is chosen, no schedule is stuck.
+pub fn ends_only_if_runs_end()
+    ensures { NoneIsStuck }
+{}
+
+/// Where a schedule reaches what must not be reached, a run comes to that place.
+pub fn reached_is_reached()
+    ensures { ReachedIsReached }
+{}
