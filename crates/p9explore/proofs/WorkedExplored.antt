@@ -10,7 +10,7 @@ use Rattle.calls.specs.declared.call.Call.TheVariants as call
 use Rattle.calls.specs.declared.line.Line.{Line}
 use Rattle.calls.specs.Machine.{system_of}
 use Rattle.calls.specs.Program.{Program}
-use Rattle.explored_calls.specs.LibraryCalls.{IsCovered, IsCoveredCall}
+use Rattle.explored_calls.specs.LibraryCalls.{IsCovered, IsCoveredCall, TicksSo}
 use Rattle.p9explore.specs.ExploredScripts.{ExploredScriptsEnd, NoCoveredRunDeadlocks}
 use Rattle.p9explore.specs.ExploredScripts.{calls_spelled}
 
@@ -53,13 +53,13 @@ it_spells_them = refl
 they_are_covered : IsCovered its_calls
 they_are_covered zero one is =
     let same : line (call.Acquire 0 None) 1 false ≡ one = cc in
-    subst (λ (l : Line). IsCoveredCall l.call) same tt
+    subst (λ (l : Line). IsCoveredCall l.call × TicksSo 0 l l.call) same (tt, tt)
 they_are_covered (suc zero) one is =
     let same : line (call.Release 0 1) 3 false ≡ one = cc in
-    subst (λ (l : Line). IsCoveredCall l.call) same tt
+    subst (λ (l : Line). IsCoveredCall l.call × TicksSo 1 l l.call) same (tt, tt)
 they_are_covered (suc (suc zero)) one is =
     let same : line (call.Acquire 0 None) 3 false ≡ one = cc in
-    subst (λ (l : Line). IsCoveredCall l.call) same tt
+    subst (λ (l : Line). IsCoveredCall l.call × TicksSo 2 l l.call) same (tt, tt)
 they_are_covered (suc (suc (suc more))) one is = absurd cc
 
 -- So where the answer is `ends`, the law says of its calls that none of their runs deadlocks.
@@ -97,7 +97,7 @@ it_is_spelled : calls_spelled (codes "world 1 1\nprocess 0\nnever both\n") ≡ S
 it_is_spelled = refl
 
 it_is_not_covered : ¬ (IsCovered with_a_never)
-it_is_not_covered covered = covered 1 (line call.Never 2 false) refl
+it_is_not_covered covered = (covered 1 (line call.Never 2 false) refl).0
 
 -- ---- what is no script
 
