@@ -13,7 +13,7 @@ use Rattle.calls.specs.declared.call.Call.TheVariants as call
 use Rattle.calls.specs.declared.line.Line.{Line}
 use Rattle.calls.specs.Machine.{system_of}
 use Rattle.calls.specs.Program.{Program, is_stream_at}
-use Rattle.explored_calls.specs.LibraryCalls.{IsCovered, IsCoveredCall}
+use Rattle.explored_calls.specs.LibraryCalls.{IsCovered, IsCoveredCall, TicksSo}
 use Rattle.p9explore.specs.ExploredScripts.{ExploredScriptsEnd, NoCoveredRunDeadlocks}
 use Rattle.p9explore.specs.ExploredScripts.{calls_spelled}
 
@@ -54,7 +54,7 @@ it_spells_them = refl
 
 -- each of these calls is covered, and no direction is a stream
 they_are_covered : IsCovered its_calls
-they_are_covered = record { calls = each; messages = λ pipe. refl }
+they_are_covered = record { calls = each; ticks = ticking; messages = λ pipe. refl }
   where
     each : (place : ℕ) (one : Line) → slice_get its_calls.lines place ≡ Some one
         → IsCoveredCall one.call
@@ -68,6 +68,19 @@ they_are_covered = record { calls = each; messages = λ pipe. refl }
         let same : line (call.Acquire 0 None) 3 false ≡ one = cc in
         subst (λ (l : Line). IsCoveredCall l.call) same tt
     each (suc (suc (suc more))) one is = absurd cc
+
+    ticking : (place : ℕ) (one : Line) → slice_get its_calls.lines place ≡ Some one
+        → TicksSo place one one.call
+    ticking zero one is =
+        let same : line (call.Acquire 0 None) 1 false ≡ one = cc in
+        subst (λ (l : Line). TicksSo 0 l l.call) same tt
+    ticking (suc zero) one is =
+        let same : line (call.Release 0 1) 3 false ≡ one = cc in
+        subst (λ (l : Line). TicksSo 1 l l.call) same tt
+    ticking (suc (suc zero)) one is =
+        let same : line (call.Acquire 0 None) 3 false ≡ one = cc in
+        subst (λ (l : Line). TicksSo 2 l l.call) same tt
+    ticking (suc (suc (suc more))) one is = absurd cc
 
 -- So where the answer is `ends`, the law says of its calls that none of their runs deadlocks.
 no_run_of_them_deadlocks : ExploredScriptsEnd → (most states : ℕ)

@@ -6,12 +6,14 @@ use Rattle.searches.specs.declared.verdict.Verdict.TheVariants as verdict
 use Rattle.searches.specs.Verdict.{HoldsIn}
 use Rattle.calls.specs.Machine.{system_of}
 use Rattle.calls.specs.Program.{IsProgram, Program}
-use Rattle.call_machines.specs.Programs.{rests_at}
-use Rattle.call_machines.specs.Replies.{SuchStopAtRest}
+use Rattle.call_machines.specs.IdleRuns.{IdleStopAtRest}
+use Rattle.call_machines.specs.Programs.{MayIdleIn, rests_at}
 use Rattle.object_machines.specs.ObjectCalls.{Objects}
-use Rattle.object_machines.specs.ObjectEnds.{LeavesUnworn}
+use Rattle.timed_machines.specs.TimedEnds.{IsTick}
+use Rattle.timed_machines.specs.TimedObjects.{LeavesTimedUnworn}
 use Rattle.explored_calls.specs.LibraryCalls.{AreItsObjects, Given, HaveEnds, IsCovered, Spot}
-use Rattle.explored_calls.specs.LibraryCalls.{is_at_head, library_of}
+use Rattle.explored_calls.specs.LibraryCalls.{is_at_head}
+use Rattle.explored_calls.specs.TimedLibrary.{timed_library_of}
 use Rattle.p9explore.specs.declared.asked.Asked.{Asked}
 use Rattle.p9explore.specs.declared.run.TheConstants.{GOOD}
 use Rattle.p9explore.specs.Answering.{Ends, IsInput}
@@ -46,15 +48,16 @@ ScriptsCanBeMade =
 
 -- No run of the library's calls that a program of covered calls makes deadlocks, whatever values
 -- are given and at whatever objects that are the program's, where each process has the ends of
--- pipes by which it calls: where such a run has stopped, each process has ended or waits at the
--- head of its loop. This is of runs in which no number of a device is worn out.
+-- pipes by which it calls: where such a run has stopped, but for processes that tick while no timer
+-- is due, each process has ended, or waits or ticks at the head of its loop. This is of runs in
+-- which no number of a device is worn out.
 abbrev pub NoCoveredRunDeadlocks : Program → Type 0
 NoCoveredRunDeadlocks program =
     (given : Spot → Given) (objects : Objects)
     → IsCovered program
     → AreItsObjects program objects
     → HaveEnds program given objects
-    → SuchStopAtRest (library_of program given objects) LeavesUnworn
+    → IdleStopAtRest (timed_library_of program given objects) (MayIdleIn IsTick) LeavesTimedUnworn
     (λ state. rests_at (is_at_head program) state ≡ true)
 
 -- So it is of what a script spells, where the verdict by calls is that it ends.
