@@ -43,7 +43,7 @@ use Rattle.object_machines.specs.ObjectCalls.ObjectCall.{AtPipe, AtSema, InSpace
 use Rattle.explored_calls.specs.LibraryCalls.{AreItsObjects, Given, HaveEnds, Spot, is_at_head}
 use Rattle.explored_calls.specs.LibraryCalls.{is_served_in, library_of, library_program, spot_in}
 use Rattle.explored_calls.proofs.Queued.{Halt, Queued, Shows}
-use Rattle.explored_calls.proofs.Queued.Amid.{Blocks, Wrote}
+use Rattle.explored_calls.proofs.Queued.Amid.{Blocks, ReadsOn, Wrote}
 use Rattle.explored_calls.proofs.Queued.Halt.{For, Free, Stays}
 use Rattle.shown_runs.specs.ShownRuns.{AreFewSteps, AreShownCalls, Deadlocks, NoneIsStuck, arrived}
 use Rattle.shown_runs.specs.ShownRuns.{offered_at, rendez_at, spot_of, with_choices}
@@ -159,6 +159,7 @@ module _ (program : Program) (given : Spot → Given) (objects : Objects)
           absurd (let both : None ≡ Some sleeps.line = sym none ∙ sleeps.line_is in cc)
       by (Stays Wrote) is put =
           absurd (let both : None ≡ Some put.line = sym none ∙ put.line_is in cc)
+      by (Stays (ReadsOn room)) is none = absurd none
 
   -- whoever waits without notes is parked
   parked_after : (pid : ℕ) → pid < procs_of program → has_notes (q.notes pid) ≡ false
@@ -225,6 +226,7 @@ module _ (program : Program) (given : Spot → Given) (objects : Objects)
             to pid _ (λ blocks. let both : Stays Wrote ≡ Stays Blocks = sym is ∙ blocks in cc)
             put.state_is,
       )
+      by (Stays (ReadsOn room)) is none = absurd none
 
 module _ (program : Program) (given : Spot → Given) (objects : Objects)
     (are : AreItsObjects program objects)

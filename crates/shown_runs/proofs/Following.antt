@@ -17,8 +17,9 @@ use Rattle.calls.specs.Position.{status_of_one, turning_of_one}
 use Rattle.calls.specs.Program.{Program, procs_of}
 use Rattle.explored_calls.proofs.ExplorerSteps.{IsAtCall, IsInLine}
 use Rattle.explored_calls.proofs.Queued.{Halt, Queued, Shows, process_of}
-use Rattle.explored_calls.proofs.Queued.Amid.{Blocks, Wrote}
+use Rattle.explored_calls.proofs.Queued.Amid.{Blocks, ReadsOn, Wrote}
 use Rattle.explored_calls.proofs.Queued.Halt.{For, Free, Stays}
+use Rattle.shown_runs.proofs.WellLines.{IsWell}
 
 -- ---- which step it was
 
@@ -123,9 +124,9 @@ module _ (program : Program) (q : Queued) (at : Position)
   moves_so mover ready =
       ap (λ (c : Course). by_course c (moves program at mover)) (sym shows.is_open) ∙ ready
 
-  goes_by : (pid : ℕ) → pid < procs_of program
+  goes_by : IsWell program q → (pid : ℕ) → pid < procs_of program
       → status_of_one program at (Some (process_of q pid)) ≡ status.Ready → Which pid
-  goes_by pid low ready = by_line (slice_get program.lines (q.place pid)) refl
+  goes_by well pid low ready = by_line (slice_get program.lines (q.place pid)) refl
     where
       by_line : (found : Option Line) → slice_get program.lines (q.place pid) ≡ found → Which pid
       by_line None is =
@@ -157,6 +158,7 @@ module _ (program : Program) (q : Queued) (at : Position)
           by_wait (Stays Blocks) blocks = by_answer blocks (is_answered program at line.call) refl
           by_wait (Stays Wrote) wrote =
               IsStood (record { line = line; low = low; line_is = is; waits = wrote })
+          by_wait (Stays (ReadsOn room)) reads = absurd (well.no_streams pid room low reads)
 
   turns_by : (mover pid : ℕ) → mover ≡ procs_of program + pid
       → pid < procs_of program
@@ -206,10 +208,13 @@ module _ (program : Program) (q : Queued) (at : Position)
           by_wait (Stays Wrote) some =
               absurd (let none : status.Ended ≡ status.Ready =
               sym (rw (is, some) refl) ∙ ready in cc)
+          by_wait (Stays (ReadsOn room)) some =
+              absurd (let none : status.Ended ≡ status.Ready =
+              sym (rw (is, some) refl) ∙ ready in cc)
 
   -- So each step was one of these.
-  pub which : (mover : ℕ) → CanMove (system_of program) at mover → Which mover
-  which mover can = by_first (nat_lt mover (procs_of program)) refl
+  pub which : IsWell program q → (mover : ℕ) → CanMove (system_of program) at mover → Which mover
+  which well mover can = by_first (nat_lt mover (procs_of program)) refl
     where
       ready : moves program at mover ≡ status.Ready
       ready = moves_so mover can.ready
@@ -217,7 +222,7 @@ module _ (program : Program) (q : Queued) (at : Position)
       by_first : (first : Bool) → nat_lt mover (procs_of program) ≡ first → Which mover
       by_first true is =
           let low : mover < procs_of program = grind (arith, nat_tests) in
-          goes_by mover low
+          goes_by well mover low
           (ap (status_of_one program at) (sym (shows.processes.each mover low))
           ∙ (sym (rw is refl) ∙ ready))
       by_first false is =

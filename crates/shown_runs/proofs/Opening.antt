@@ -48,7 +48,7 @@ use Rattle.explored_calls.specs.LibraryCalls.{Given, HasEndIn, HaveEnds, ended_a
 use Rattle.explored_calls.specs.LibraryCalls.{spot_at, spot_in, starts_from}
 use Rattle.explored_calls.proofs.PipePhases.{IsQuiet, PipeFits, pipe_in}
 use Rattle.explored_calls.proofs.Queued.{Amid, Halt, Queued, Shows}
-use Rattle.explored_calls.proofs.Queued.Amid.{Blocks, Wrote}
+use Rattle.explored_calls.proofs.Queued.Amid.{Blocks, ReadsOn, Wrote}
 use Rattle.explored_calls.proofs.Queued.Halt.{Free, Stays}
 use Rattle.shown_runs.specs.ShownRuns.{AreFewSteps, AreShownCalls, arrived, spot_of, with_choices}
 use Rattle.shown_runs.proofs.CallSteps.{starts_long}
@@ -406,6 +406,10 @@ module _ (program : Program) (given : Spot → Given) (objects : Objects)
             let same : put.line ≡ line = cc in
             subst (λ (l : Line). MadeWrite program l.call) same
             (record { pipe = put.pipe; bytes = put.bytes; low = put.low; is = put.made });
+        no_streams = λ pid room low waits.
+            subst (λ (w : Halt). StandsBy program given
+            (with_choices objects plays.choices) plays.at pid (before.q.place pid)
+            (seen_by w true)) waits (plays.quiet.each pid low).stands;
       }
     where
       -- all were told to wait
@@ -418,6 +422,7 @@ module _ (program : Program) (given : Spot → Given) (objects : Objects)
           (seen_by (Stays amid) true) → HasLine program before.q pid
       by_amid pid Blocks told = record { line = told.line; is = told.line_is }
       by_amid pid Wrote put = record { line = put.line; is = put.line_is }
+      by_amid pid (ReadsOn room) none = absurd none
 
       by_told : {spot : Spot} {line : Line} {pipe number : ℕ} {rendez_is : RendezId}
           (made : CallState) → WasTold program given (with_choices objects plays.choices) spot line

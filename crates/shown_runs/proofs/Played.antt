@@ -463,7 +463,7 @@ module _ (program : Program) (given : Spot → Given) (objects : Objects)
     -- So each step is made, but one that ends the program, or reaches what must not be reached.
     pub steps : IsWell program q → HasEnds program given objects q
         → CanMove (system_of program) at mover → Stepped
-    steps well ends can = by (which program q at shows mover can)
+    steps well ends can = by (which program q at shows well mover can)
       where
         begun_so : (line : Line) (is_at : IsAtCall program q mover line)
             → StepsTo program given objects are is_program shown q (after_of program at mover)

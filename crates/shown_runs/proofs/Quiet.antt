@@ -43,7 +43,7 @@ use Rattle.object_machines.specs.ObjectEnds.{AreApart, LeavesUnworn, sema_row, s
 use Rattle.explored_calls.specs.LibraryCalls.{AreItsObjects, Given, Spot, library_of}
 use Rattle.explored_calls.proofs.PipePhases.{IsQuiet}
 use Rattle.explored_calls.proofs.Queued.{Halt, Queued, is_for}
-use Rattle.explored_calls.proofs.Queued.Amid.{Blocks, Wrote}
+use Rattle.explored_calls.proofs.Queued.Amid.{Blocks, ReadsOn, Wrote}
 use Rattle.explored_calls.proofs.Queued.Halt.{For, Free, Stays as IsAmid}
 use Rattle.explored_calls.proofs.SpaceFacts.{AtMostOne}
 use Rattle.shown_runs.specs.ShownRuns.{arrived, offered_at, rendez_at, spot_of}
@@ -248,6 +248,7 @@ module _ (program : Program) (given : Spot → Given) (objects : Objects) where
   StandsBy at pid place (For (want.Partner tag)) = IsMeeting at pid place tag
   StandsBy at pid place (IsAmid Blocks) = IsTold at pid place
   StandsBy at pid place (IsAmid Wrote) = HasPutAt at pid place
+  StandsBy at pid place (IsAmid (ReadsOn room)) = ⊥
 
   -- one that has put no write
   pub quiet_by : (at : Position (library_of program given objects)) (pid place : ℕ) (waits : Halt)
@@ -274,6 +275,7 @@ module _ (program : Program) (given : Spot → Given) (objects : Objects) where
           (sym at_is)
           (at_pipe_quiet program given objects (spot_of pid place) told.pipe _ refl (λ over. over))
   quiet_by at pid place (IsAmid Wrote) no_write put = absurd no_write
+  quiet_by at pid place (IsAmid (ReadsOn room)) no_write none = absurd none
 
   -- how a process stands, by its place, its wait and its notes
   pub record Stands (at : Position (library_of program given objects)) (pid place : ℕ)
@@ -612,6 +614,7 @@ module _ (program : Program) (given : Spot → Given) (objects : Objects) where
             state_is = state ∙ put.state_is;
             phase_is = stage ∙ put.phase_is;
           }
+      by (IsAmid (ReadsOn room)) none = absurd none
 
   -- two members that differ have two Rendez
   pub meetings_apart : (pid other : ℕ) → pid ≢ other → meeting pid ≢ meeting other

@@ -18,7 +18,7 @@ use Rattle.explored_calls.proofs.ExplorerPipes.{halted}
 use Rattle.explored_calls.proofs.Lists.{at_one}
 use Rattle.explored_calls.proofs.Queued.{AreLines, Halt, Queued, gives_up, gone, is_for, joins}
 use Rattle.explored_calls.proofs.Queued.{serves, with_values}
-use Rattle.explored_calls.proofs.Queued.Amid.{Blocks, Wrote}
+use Rattle.explored_calls.proofs.Queued.Amid.{Blocks, ReadsOn, Wrote}
 use Rattle.explored_calls.proofs.Queued.Halt.{For, Free, Stays}
 use Rattle.shown_runs.proofs.CallSteps.{at_else, at_self}
 use Rattle.shown_runs.proofs.PipeSteps.{MovesTo}
@@ -122,6 +122,7 @@ seen_for : (what : Want) (halt : Halt) (told : Bool)
 seen_for what Free told = refl
 seen_for what (For other) told = refl
 seen_for what (Stays Wrote) told = refl
+seen_for what (Stays (ReadsOn room)) told = refl
 seen_for what (Stays Blocks) true = refl
 seen_for what (Stays Blocks) false = refl
 

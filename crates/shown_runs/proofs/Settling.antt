@@ -53,7 +53,7 @@ use Rattle.explored_calls.specs.LibraryCalls.{AreItsObjects, Given, HasEnd, Spot
 use Rattle.explored_calls.proofs.Directions.{finds_so, found_by, shown, writes_many, writes_of}
 use Rattle.explored_calls.proofs.PipePhases.{PipeFits, put_in}
 use Rattle.explored_calls.proofs.Queued.{Halt, Queued, Shows}
-use Rattle.explored_calls.proofs.Queued.Amid.{Blocks, Wrote}
+use Rattle.explored_calls.proofs.Queued.Amid.{Blocks, ReadsOn, Wrote}
 use Rattle.explored_calls.proofs.Queued.Halt.{For, Free, Stays}
 use Rattle.shown_runs.specs.ShownRuns.{arrived, spot_of}
 use Rattle.shown_runs.proofs.Acts.{IsSized, Leads, Reached, asks, falls_asleep, led_so}
@@ -515,6 +515,7 @@ module _ (program : Program) (given : Spot → Given) (objects : Objects)
               by_want (want.Partner tag) = tt
           by (Stays Blocks) is = tt
           by (Stays Wrote) is = absurd (none_wrote pid low is)
+          by (Stays (ReadsOn room)) is = tt
 
       module _ (pid : ℕ) (low : pid < procs_of program)
           (next : Position (library_of program given objects)) (settled : Settled pid next)
@@ -767,6 +768,12 @@ module _ (program : Program) (given : Spot → Given) (objects : Objects)
                     let both : For what ≡ Stays Blocks = sym is ∙ blocks in cc);
               }
           by (Stays Wrote) is = absurd (none_wrote pid low is)
+          by (Stays (ReadsOn room)) is =
+              record {
+                next = before.next;
+                settled = settles_none pid low before.next before.settled (λ blocks.
+                    let both : Stays (ReadsOn room) ≡ Stays Blocks = sym is ∙ blocks in cc);
+              }
           by (Stays Blocks) is =
               let at_line = well.lines pid Blocks low is in
               let made = well.blocks pid at_line.line low at_line.is is in

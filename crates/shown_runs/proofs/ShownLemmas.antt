@@ -28,7 +28,7 @@ use Rattle.object_machines.specs.ObjectCalls.{ObjectCall, Objects, object_does}
 use Rattle.object_machines.specs.ObjectCalls.ObjectCall.{AtPipe}
 use Rattle.explored_calls.specs.LibraryCalls.{AreItsObjects, Given, Spot, library_of}
 use Rattle.explored_calls.proofs.Queued.{Halt, Queued, Shows, itself, process_of, stands_by}
-use Rattle.explored_calls.proofs.Queued.Amid.{Blocks, Wrote}
+use Rattle.explored_calls.proofs.Queued.Amid.{Blocks, ReadsOn, Wrote}
 use Rattle.explored_calls.proofs.Queued.Halt.{For, Free, Stays}
 use Rattle.shown_runs.specs.ShownRuns.{ComesTo, IsAsShown, SleepsAtPipe, SleepsFor}
 use Rattle.shown_runs.specs.ShownRuns.{SleepsForPartner, StandsSo, WaitsAtPipe, spot_of}
@@ -290,6 +290,7 @@ module _ (program : Program) (given : Spot → Given) (objects : Objects)
             awake = stage_still pid _ (λ blocks.
                 let both : Stays Wrote ≡ Stays Blocks = sym is ∙ blocks in cc) put.phase_is;
           }
+      by (Stays (ReadsOn room)) none rests is = absurd none
 
   -- So the run comes to the position.
   pub comes : (shown : Position) → Shows (procs_of program) q shown

@@ -22,7 +22,7 @@ use Rattle.calls.specs.Program.{Program, procs_of}
 use Rattle.calls.specs.Timers.{is_early}
 use Rattle.explored_calls.proofs.ExplorerSteps.{begins_ready, waits_ready}
 use Rattle.explored_calls.proofs.Queued.{Halt, Queued, Shows, process_of}
-use Rattle.explored_calls.proofs.Queued.Amid.{Blocks, Wrote}
+use Rattle.explored_calls.proofs.Queued.Amid.{Blocks, ReadsOn, Wrote}
 use Rattle.explored_calls.proofs.Queued.Halt.{For, Free, Stays}
 use Rattle.shown_runs.specs.ShownRuns.{AreShownCalls, IsShownCall}
 
@@ -170,6 +170,15 @@ module _ (program : Program) (shown : AreShownCalls program) (q : Queued) (at : 
               (record { low = low; line_is = is; waits = none })
               (never_early program at.processes line.call (shown (q.place pid) line is))))
           by_wait (Stays Wrote) wrote = absurd (none_wrote pid low line is wrote)
+          by_wait (Stays (ReadsOn room)) reads =
+              absurd (not_ready pid (omega arith)
+              (rw (
+                shows.is_open,
+                below pid low,
+                shows.processes.each pid low,
+                is,
+                reads,
+              ) refl))
           by_wait (Stays Blocks) blocks =
               by_both (is_answered program at line.call) refl (has_notes (q.notes pid)) refl
             where

@@ -1,6 +1,6 @@
 -- What is known of the lines of processes, whatever the library does: the calls that processes are
 -- amid, the ends that they have, and the places to which a step leads them.
-use Rattle.std.proofs.Common.{◌≡◌, ◌⊎◌, inl, inr, ℕ, ◌<◌, ◌==◌, Bool, if◌then◌else◌, true, false}
+use Rattle.std.proofs.Common.{◌≡◌, ◌≢◌, ◌⊎◌, inl, inr, ℕ, ◌<◌, ◌==◌, Bool, if◌then◌else◌, true, false}
 use Rattle.std.proofs.Common.{Option, Some, None, List, length, take, refl, ap, ◌∙◌, arith}
 use Rattle.std.specs.Prelude.{slice_get}
 use Rattle.std.proofs.lemmas.Bool.Decides.{nat_tests}
@@ -18,7 +18,7 @@ use Rattle.object_machines.specs.ObjectCalls.{Objects}
 use Rattle.explored_calls.specs.LibraryCalls.{Given, HasEnd, Spot}
 use Rattle.explored_calls.proofs.Lists.{at_one}
 use Rattle.explored_calls.proofs.Queued.{Amid, Queued, gone, served_at, serves, with_values}
-use Rattle.explored_calls.proofs.Queued.Amid.{Blocks, Wrote}
+use Rattle.explored_calls.proofs.Queued.Amid.{Blocks, ReadsOn, Wrote}
 use Rattle.explored_calls.proofs.Queued.Halt.{Stays}
 use Rattle.shown_runs.specs.ShownRuns.{spot_of}
 
@@ -75,6 +75,8 @@ module _ (program : Program) where
     pub wrote : (pid : ℕ) (line : Line) → pid < procs_of program
         → slice_get program.lines (q.place pid) ≡ Some line → q.waits pid ≡ Stays Wrote
         → MadeWrite line.call
+    -- nobody has filled a part of its buffer
+    pub no_streams : (pid room : ℕ) → pid < procs_of program → q.waits pid ≢ Stays (ReadsOn room)
 
   -- each process has the end by which it makes the call of its place
   abbrev pub HasEnds : (Spot → Given) → Objects → Queued → Type 0
