@@ -233,8 +233,8 @@ module _ (program : Program) (given : Spot → Given) (objects : Objects) where
     pub never : line.call ≡ call.Never
     pub there : IsAtPlace program given (with_choices objects choices) run pid place
 
--- what is shown of each schedule of the explorer's machine, whatever values are given in rendezvous,
--- where each process has the ends by which it calls
+-- what is shown of each schedule of the explorer's machine, whatever values are given in
+-- rendezvous, where each process has the ends by which it calls
 abbrev pub OfEachSchedule : (Program → (Spot → Given) → Objects → List ℕ → Type 0) → Type 0
 OfEachSchedule Shown =
     (program : Program) (given : Spot → Given) (objects : Objects) (movers : List ℕ)
