@@ -1,4 +1,5 @@
--- The moves of a call at a direction of a pipe are followed by the explorer.
+-- The moves of a call at a direction of a pipe are followed by the explorer: what the calls have in
+-- common, writes and hangups. Reads are in `ReadMoves`.
 use Rattle.std.proofs.Common.{◌≡◌, ◌≢◌, inl, inr, ℕ, suc, ◌+◌, ◌<◌, ◌==◌, Bool}
 use Rattle.std.proofs.Common.{if◌then◌else◌, true, false, Some, None, List, length}
 use Rattle.std.proofs.Common.{nat_lt, refl, sym, ap, ◌∙◌, subst, arith, Ok, Err}

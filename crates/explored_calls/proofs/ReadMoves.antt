@@ -72,8 +72,6 @@ use Rattle.explored_calls.proofs.RunningPipes.{Reading, turned_to}
 use Rattle.explored_calls.proofs.RunningPipes.Reading.{Begins, Continues, Retries}
 use Rattle.explored_calls.proofs.RunningSteps.{GoesTo, goes_is}
 
--- ---- a read
-
 -- in stream mode alone it goes on, if there is room
 on_in : (mode : Mode) (more : Bool) → by_mode mode false more ≡ (is_stream mode && more)
 on_in Message more = refl
@@ -114,6 +112,7 @@ abbrev over_at : {Out : Type 0} → Option ℕ → Out → FillState Out
 over_at None out = FillState.Told (Ok out)
 over_at (Some number) out = FillState.WakingWriters 0 number out
 
+-- so its machine has it
 came_is : {Out : Type 0} (row : Row) (room : ℕ) (told : ReadOutcome → Out) (last : Option ℕ)
     (came : ReadOutcome) (out : Out) → told came ≡ out
     → came_so row room told last came ≡ over_at last out
@@ -140,7 +139,6 @@ module _ (program : Program) (is_program : IsProgram program) (covered : IsCover
     there,
     at_call,
     old,
-    is,
   }
 
   -- the direction
@@ -177,8 +175,6 @@ module _ (program : Program) (is_program : IsProgram program) (covered : IsCover
   -- the process lands so
   abbrev Lands : CallState → Ending → Type 0
   Lands at ends = moves.Lands program is_program covered given objects its at ends
-
-  -- ---- a read
 
   module _ (modes : is_stream (pipe_at objects pipe).row.mode ≡ is_stream_at program pipe) where
     -- whether it goes on after a part
@@ -546,6 +542,7 @@ module _ (program : Program) (is_program : IsProgram program) (covered : IsCover
             same)) (moves.dirs_stay program is_program covered given objects its state unput quiet))
             last
 
+        -- it takes a part
         was_got : (part : ℕ) (number : Option ℕ)
             → part_told d room d.rest ≡ PipeReply.Got part number
             → Read_so count last room (PipeReply.Got part number)
@@ -604,6 +601,7 @@ module _ (program : Program) (is_program : IsProgram program) (covered : IsCover
                 (λ state quiet. read_dirs room part number told state quiet.awake
                 (λ other far. quiet.puts other) (quiet.puts pipe) unput) number
 
+        -- or nothing is there yet
         was_not : (n : ℕ) → part_told d room d.rest ≡ PipeReply.NotYet n
             → part_after d room d.rest ≡ d → Read_so count last room (PipeReply.NotYet n)
         was_not n told same = by_some (nat_lt 0 count) refl
@@ -671,6 +669,7 @@ module _ (program : Program) (is_program : IsProgram program) (covered : IsCover
                 Followed (moved_to v.object state (v.notes pid))) (sym (waits_lead last n))
                 (by_phase none phase_is)))
 
+        -- or all is read
         was_end : part_told d room d.rest ≡ PipeReply.End
             → part_after d room d.rest ≡ d → Read_so count last room PipeReply.End
         was_end told same = by_some (nat_lt 0 count) refl
@@ -872,6 +871,7 @@ module _ (program : Program) (is_program : IsProgram program) (covered : IsCover
             same)) (moves.dirs_stay program is_program covered given objects its state try_unput
             quiet)) last
 
+        -- it takes a part
         try_got : (part : ℕ) (number : Option ℕ)
             → part_told d try_room d.rest ≡ PipeReply.Got part number
             → Tried_so count last try_room (PipeReply.Got part number)
@@ -931,6 +931,7 @@ module _ (program : Program) (is_program : IsProgram program) (covered : IsCover
                 (λ state quiet. read_dirs try_room part number told state quiet.awake
                 (λ other far. quiet.puts other) (quiet.puts pipe) try_unput) number
 
+        -- or nothing is there yet
         try_not : (n : ℕ) → part_told d try_room d.rest ≡ PipeReply.NotYet n
             → part_after d try_room d.rest ≡ d
             → Tried_so count last try_room (PipeReply.NotYet n)
@@ -955,6 +956,7 @@ module _ (program : Program) (is_program : IsProgram program) (covered : IsCover
                 (finds_there try_room (PipeReply.NotYet n) told) (none_less (length buffer) count
                 none) made)
 
+        -- or all is read
         try_end : part_told d try_room d.rest ≡ PipeReply.End
             → part_after d try_room d.rest ≡ d → Tried_so count last try_room PipeReply.End
         try_end told same = by_some (nat_lt 0 count) refl
