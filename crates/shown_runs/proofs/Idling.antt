@@ -1,4 +1,5 @@
--- One that ticks for ever idles where no timer is set: it finds none, and makes the same call again.
+-- One that ticks for ever idles where no timer is set: it finds none, and makes the same call
+-- again.
 use Rattle.std.proofs.Common.{◌≡◌, ℕ, ◌<◌, Option, Some, List, refl, sym, ap, ◌∙◌, subst}
 use Rattle.std.specs.Prelude.{slice_get}
 use Rattle.timer_list.specs.declared.timer_object.Timer.{Timer}
@@ -46,7 +47,7 @@ module _ (program : Program) (given : Spot → Given) (objects : Objects) (pid p
       ∙ ap (λ (t : TickState). machines.In (spot_of pid place) (Tick now t))
       (first_asks program given objects now some)))
 
-  -- So it idles.
+  -- So a process that ticks for ever idles.
   pub tick_idles : (object : TimedObject ObjectStates)
       → object.timers ≡ unset program given objects
       → (at : ProgramState Spot TimedObjectCall) → at ≡ arrived program given objects pid place

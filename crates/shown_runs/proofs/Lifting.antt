@@ -1,6 +1,7 @@
 -- A schedule of the calls without a clock is one of the calls with ticks: where the one posts no
 -- notes to itself, the other ticks and finds no timer.
-use Rattle.std.proofs.Common.{◌≡◌, ℕ, zero, suc, ◌==◌, ◌<◌, Bool, true, false, if◌then◌else◌, Option}
+use Rattle.std.proofs.Common.{◌≡◌, ℕ, zero, suc, ◌==◌, ◌<◌, Bool, true, false, Option}
+use Rattle.std.proofs.Common.{if◌then◌else◌}
 use Rattle.std.proofs.Common.{Some, None, List, [], ◌∷◌, length, map, replicate, nat_lt, Ok, Err}
 use Rattle.std.proofs.Common.{refl, sym, ap, ◌∙◌, subst, set, arith}
 use Rattle.std.specs.Prelude.{⊤, slice_get, slice_index_or, slice_set}
@@ -214,6 +215,7 @@ module _ (program : Program) (given : Spot → Given) (objects : Objects) where
   lift_by (call.Ticks now) at = Tick now (first_tick objects now)
   lift_by other at = Plain at
 
+  -- where no line is there is no tick
   abbrev pub lift_in : Option Line → ObjectCall → TimedObjectCall
   lift_in None at = Plain at
   lift_in (Some line) at = lift_by line.call at
@@ -379,6 +381,7 @@ module _ (program : Program) (given : Spot → Given) (objects : Objects) where
     does_as Next.Drain = refl
     does_as (Next.Over answer) = refl
 
+    -- where a process is there
     pub state_as : state_of timed (lift p) pid ≡ lifted (state_of plain p pid)
     state_as = map_get lifted p.states pid Ended
 
@@ -563,7 +566,8 @@ module _ (program : Program) (given : Spot → Given) (objects : Objects) where
 
   -- ---- each schedule
 
-  -- some schedule with the clock comes to the position, and whoever is at a tick is about to make it
+  -- some schedule with the clock comes to the position, and whoever is at a tick is about to make
+  -- it
   record Lifts (p : Position plain) : Type 0 where
     reached : Reached timed_such (lift p)
     there : (pid : ℕ) → IsThere (state_of plain p pid)
@@ -614,7 +618,7 @@ module _ (program : Program) (given : Spot → Given) (objects : Objects) where
         there = first_there 0 program.starts;
       }
 
-  -- there is one
+  -- it has a process, where one moves
   pub some_procs : AreItsObjects program objects → (pid : ℕ) → pid < procs_of program
       → 0 < procs (object_calls objects)
   some_procs are pid low =
@@ -746,6 +750,7 @@ module _ (program : Program) (given : Spot → Given) (objects : Objects) where
           (record { movers = movers; below = below.1; is = refl; asked = so.0 }) (before so.0) pid
           below.0 act is so.1
 
+  -- and so is each position that a schedule comes to
   pub lift_reached : AreItsObjects program objects → (p : Position plain)
       → Reached (such_calls program given objects) p → Reached timed_such (lift p)
   lift_reached are p reached =

@@ -1,5 +1,5 @@
--- An explored program without a clock, which makes the same steps: whoever ticks once posts no notes
--- to itself, and whoever ticks for ever is over. Schedules are played by it first.
+-- An explored program without a clock, which makes the same steps: whoever ticks once posts no
+-- notes to itself, and whoever ticks for ever is over. Schedules are played by it first.
 use Rattle.std.proofs.Common.{ℕ, Option, None, Some}
 use Rattle.std.specs.Prelude.{slice_get}
 use Rattle.sync_base.specs.NoteSet.{no_notes}
@@ -37,7 +37,7 @@ plain_program program given =
       next = (library_program program given).next;
     }
 
--- and their system
+-- the system of the calls that the program makes so
 abbrev pub plain_of : Program → (Spot → Given) → Objects
     → System (ProgramState Spot ObjectCall) ObjectRequest ObjectReply Unit ObjectStates
 plain_of program given objects =

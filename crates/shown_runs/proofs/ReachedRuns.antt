@@ -1,5 +1,5 @@
--- The run of a schedule: it leaves each process where the position has it, and amid what its machine
--- does.
+-- The run of a schedule: it leaves each process where the position has it, and amid what its
+-- machine does.
 use Rattle.std.proofs.Common.{◌≡◌, ℕ, Option, Some, None, List, [], ◌∷◌, refl, sym, ap, ◌∙◌}
 use Rattle.std.proofs.Common.{subst}
 use Rattle.sleep_core.specs.State.{phase_of}

@@ -122,7 +122,8 @@ module _ (program : Program) (given : Spot → Given) (objects : Objects)
 
   -- in a Rendez of no direction the same process is posted
   posted_after : (k : ℕ) → ((pipe n : ℕ) → IsOf program given objects pipe n → n ≢ k)
-      → posted_of (world_at (timed_library_of program given objects) to.run) k ≡ posted_of at.world k
+      → posted_of (world_at (timed_library_of program given objects) to.run) k
+      ≡ posted_of at.world k
   posted_after k apart = ap (λ (w : State). posted_of w k) to.world ∙ by (settled.posted k)
     where
       by : (posted_of next.world k ≡ posted_of at.world k)

@@ -311,11 +311,13 @@ module _ (lock : Locked SemaState SemaCall SemaReply)
       run_of (timed_library_of program given (with_choices objects ways)) movers
 
   is_of_calls : (program : Program) (ways : List Bool) (movers : List ℕ)
-      → AllByRecursion (λ pid. pid < procs (timed_library_of program given (with_choices objects ways)))
-      movers
-      → IsOfCalls (timed_library_of program given (with_choices objects ways)) (run program ways movers)
+      → AllByRecursion
+      (λ pid. pid < procs (timed_library_of program given (with_choices objects ways))) movers
+      → IsOfCalls (timed_library_of program given (with_choices objects ways))
+      (run program ways movers)
   is_of_calls program ways movers below =
-      (schedules_are_runs (timed_library_of program given (with_choices objects ways)) movers below).0
+      (schedules_are_runs (timed_library_of program given (with_choices objects ways)) movers
+      below).0
 
   -- ---- a wait, and a release
 

@@ -132,7 +132,8 @@ module _ (program : Program) (given : Spot → Given) (objects : Objects) where
           (rendez_at objects sema pid).0 ≡ posted_as pid
       pub below : level_of (world_at (timed_library_of program given objects) run)
           (rendez_at objects sema pid).0 ≤ number
-      pub unmarked : (flags_of (world_at (timed_library_of program given objects) run) pid).wake ≡ false
+      pub unmarked : (flags_of (world_at (timed_library_of program given objects) run) pid).wake
+          ≡ false
 
     -- It sleeps in the rendezvous of this place, in the same way, in the Rendez of its member.
     pub record SleepsForPartner (pid place tag : ℕ) : Type 0 where
@@ -149,7 +150,8 @@ module _ (program : Program) (given : Spot → Given) (objects : Objects) where
           (rendez_of_member objects.space pid).0 ≡ posted_as pid
       pub below : level_of (world_at (timed_library_of program given objects) run)
           (rendez_of_member objects.space pid).0 ≤ number
-      pub unmarked : (flags_of (world_at (timed_library_of program given objects) run) pid).wake ≡ false
+      pub unmarked : (flags_of (world_at (timed_library_of program given objects) run) pid).wake
+          ≡ false
 
     -- It sleeps in the read or the write of this place, in the same way: in the reader's Rendez or
     -- in that of its writer.
@@ -166,7 +168,8 @@ module _ (program : Program) (given : Spot → Given) (objects : Objects) where
       pub posted : posted_of (world_at (timed_library_of program given objects) run) rendez.0
           ≡ posted_as pid
       pub below : level_of (world_at (timed_library_of program given objects) run) rendez.0 ≤ number
-      pub unmarked : (flags_of (world_at (timed_library_of program given objects) run) pid).wake ≡ false
+      pub unmarked : (flags_of (world_at (timed_library_of program given objects) run) pid).wake
+          ≡ false
 
     -- The explorer makes a read or a write again that waits. So such a process is about to make the
     -- call of this place, for the first time or again, or sleeps in it.
@@ -217,17 +220,18 @@ module _ (program : Program) (given : Spot → Given) (objects : Objects) where
     pub run : List LibraryStep
     pub comes : ComesTo program given (with_choices objects choices) run at
 
-  -- such a run has stopped there, and this process waits for ever, and not at the head of its loop
+  -- such a run has stopped there, but for processes that tick for ever, and this process waits for
+  -- ever, and not at the head of its loop
   pub record Deadlocks (at : Position) : Type 0 where
     pub played : IsPlayed at
-    pub stopped : HasStoppedIdle (timed_library_of program given (with_choices objects played.choices))
-        (MayIdleIn IsTick) played.run
+    pub stopped : HasStoppedIdle
+        (timed_library_of program given (with_choices objects played.choices)) (MayIdleIn IsTick)
+        played.run
     pub pid : ℕ
     pub below : pid < procs (timed_library_of program given (with_choices objects played.choices))
     pub waits : rests_at (is_at_head program)
         (own_in (timed_library_of program given (with_choices objects played.choices)) pid
-        played.run).at
-        ≡ false
+        played.run).at ≡ false
 
   -- a run of the library's calls comes to where this process is about to make a call that is never
   -- to be made
@@ -265,8 +269,8 @@ ShownAreRuns =
     (shown_at program movers).course ≢ course.Ended
     → IsPlayed program given objects (shown_at program movers))
 
--- Where the machine is stuck after it, the run has stopped, and is a deadlock: each process that
--- the position has waiting waits in that call for ever.
+-- Where the machine is stuck after it, the run has stopped, but for processes that tick for ever,
+-- and is a deadlock: each process that the position has waiting waits in that call for ever.
 abbrev pub StuckIsDeadlock : Type 0
 StuckIsDeadlock =
     OfEachSchedule (λ program given objects movers.
@@ -281,8 +285,8 @@ NoneIsStuck =
     OfEachSchedule (λ program given objects movers.
     (shown_at program movers).course ≡ course.Open
     → ((choices : List Bool)
-    → IdleStopAtRest (timed_library_of program given (with_choices objects choices)) (MayIdleIn IsTick)
-    LeavesTimedUnworn (λ state. rests_at (is_at_head program) state ≡ true))
+    → IdleStopAtRest (timed_library_of program given (with_choices objects choices))
+    (MayIdleIn IsTick) LeavesTimedUnworn (λ state. rests_at (is_at_head program) state ≡ true))
     → is_stuck (system_of program) (shown_at program movers) ≡ false)
 
 -- Where it has reached what must not be reached, so does a run.
