@@ -49,15 +49,16 @@ use Rattle.object_machines.specs.ObjectCalls.ObjectCall.{AtSema}
 use Rattle.object_machines.specs.ObjectCalls.ObjectReply.{BySema}
 use Rattle.object_machines.specs.ObjectCalls.ObjectRequest.{OfSema}
 use Rattle.object_machines.specs.ObjectEnds.{is_sema_unworn}
-use Rattle.explored_calls.specs.LibraryCalls.{AreItsObjects, Spot, call_by, call_in, library_of}
-use Rattle.explored_calls.specs.LibraryCalls.{library_program, place_after, spot_in, starts_from}
+use Rattle.explored_calls.specs.LibraryCalls.{AreItsObjects, Spot}
+use Rattle.explored_calls.specs.LibraryCalls.{place_after, spot_in, starts_from}
 use Rattle.explored_calls.specs.LibraryCalls.{Given}
 use Rattle.explored_calls.proofs.Lists.{at_one}
 use Rattle.explored_calls.proofs.Queued.{Halt, Queued, gives_up, is_for, itself, joins}
 use Rattle.explored_calls.proofs.UnitFacts
 use Rattle.explored_calls.proofs.UnitFacts.{Answered}
 use Rattle.explored_calls.proofs.Queued.Halt.{For, Free}
-use Rattle.shown_runs.specs.ShownRuns.{arrived, rendez_at, spot_of}
+use Rattle.shown_runs.specs.ShownRuns.{rendez_at, spot_of}
+use Rattle.shown_runs.proofs.Plain.{arrived, plain_by, plain_in, plain_of, plain_program}
 use Rattle.shown_runs.proofs.Acts.{Here, Known, Leads, Stays, asks, falls_asleep, is_noted, on}
 use Rattle.shown_runs.proofs.Acts.{with_state}
 use Rattle.shown_runs.proofs.Quiet.{such_calls}
@@ -149,13 +150,13 @@ module _ (program : Program) (given : Spot → Given) (objects : Objects) where
   pub at_call : (pid place : ℕ) (line : Line) (made : Call)
       → slice_get program.lines place ≡ Some line → line.call ≡ made
       → arrived program given objects pid place
-      ≡ In (spot_of pid place) (call_by pid (given (spot_of pid place)) made)
+      ≡ In (spot_of pid place) (plain_by pid (given (spot_of pid place)) made)
   at_call pid place line made there is =
       ap (λ (found : Option Line). machines.at_place (object_calls objects)
-      (library_program program given) (spot_in pid place found)) there
+      (plain_program program given) (spot_in pid place found)) there
       ∙ (ap (λ (found : Option Line). machines.In (spot_of pid place)
-      (call_in pid (given (spot_of pid place)) found)) there
-      ∙ ap (λ (c : Call). In (spot_of pid place) (call_by pid (given (spot_of pid place)) c)) is)
+      (plain_in pid (given (spot_of pid place)) found)) there
+      ∙ ap (λ (c : Call). In (spot_of pid place) (plain_by pid (given (spot_of pid place)) c)) is)
 
   -- the place that an answer leads to
   pub leads_to : (pid place : ℕ) (line : Line) (ends : Ending)
@@ -167,19 +168,19 @@ module _ (program : Program) (given : Spot → Given) (objects : Objects) where
       there
 
   -- the library has as many processes as the program
-  pub procs_are : procs (library_of program given objects) ≡ procs_of program
+  pub procs_are : procs (plain_of program given objects) ≡ procs_of program
   procs_are =
       length-map (starts_from program 0 program.starts)
-      (machines.at_place (object_calls objects) (library_program program given))
+      (machines.at_place (object_calls objects) (plain_program program given))
       ∙ starts_long program 0 program.starts
 
   -- so a process of the program is one of the library
   pub in_library : (pid : ℕ) → pid < procs_of program
-      → pid < procs (library_of program given objects)
+      → pid < procs (plain_of program given objects)
   in_library pid low = subst (λ (n : ℕ). pid < n) (sym procs_are) low
 
   -- one semaphore has become another after a request
-  pub changed_after : (at next : Position (library_of program given objects)) (sema : ℕ)
+  pub changed_after : (at next : Position (plain_of program given objects)) (sema : ℕ)
       (hold : Hold) (t : SemaState) → sema < length at.object.semas
       → next.object ≡ object_after objects at.object (OfSema sema hold)
       → hold_after (sema_at program given objects at sema) hold ≡ t
@@ -197,7 +198,7 @@ module _ (program : Program) (given : Spot → Given) (objects : Objects) where
       }
 
   -- what a process has at a semaphore stays, where no word changes
-  pub frame_words : (at next : Position (library_of program given objects)) (sema pid other : ℕ)
+  pub frame_words : (at next : Position (plain_of program given objects)) (sema pid other : ℕ)
       (t : SemaState)
       → ((k : ℕ) → posted_of next.world k ≡ posted_of at.world k)
       → ((k : ℕ) → level_of next.world k ≡ level_of at.world k)
@@ -237,7 +238,7 @@ module _ (program : Program) (given : Spot → Given) (objects : Objects) where
         here.procs_are ∙ are.procs_are in
         omega arith
 
-    module _ (q : Queued) (most : ℕ) (ways : List Bool) (at : Position (library_of program given
+    module _ (q : Queued) (most : ℕ) (ways : List Bool) (at : Position (plain_of program given
         objects))
         (quiet : Quiet program given objects q most ways at) (pid : ℕ) (low : pid < procs_of
         program)
@@ -326,8 +327,8 @@ module _ (program : Program) (given : Spot → Given) (objects : Objects) where
             → arrived program given objects pid (q.place pid) ≡ state
             → Answered (sema_at program given objects at sema) hold told t
             → is_sema_unworn told.first ≡ true
-            → (library_of program given objects).machine.does state ≡ Next.Ask (OfSema sema hold)
-            → (library_of program given objects).machine.goes_on state
+            → (plain_of program given objects).machine.does state ≡ Next.Ask (OfSema sema hold)
+            → (plain_of program given objects).machine.goes_on state
             (Outcome.Replied (BySema told)) ≡ arrived program given objects pid to
             → ((other : ℕ) → other < procs_of program
             → SameSeat program given objects (sema_at program given objects at sema) t other)
@@ -365,10 +366,10 @@ module _ (program : Program) (given : Spot → Given) (objects : Objects) where
             led : Leads (such_calls program given objects) pid pid
                 (rendez program given objects sema pid)
                 (record (begins state (rendez program given objects sema pid)) {
-                  state = (library_of program given objects).machine.goes_on state
-                      (Outcome.Replied ((library_of program given objects).answer at.object
+                  state = (plain_of program given objects).machine.goes_on state
+                      (Outcome.Replied ((plain_of program given objects).answer at.object
                       (OfSema sema hold)));
-                  object = (library_of program given objects).after at.object (OfSema sema hold);
+                  object = (plain_of program given objects).after at.object (OfSema sema hold);
                 }) at
             led =
                 asks (such_calls program given objects) pid pid _ (begins state _) at
@@ -385,7 +386,7 @@ module _ (program : Program) (given : Spot → Given) (objects : Objects) where
                 record {
                   stands = record {
                     state_is = led.known.now.state_is
-                        ∙ (ap (λ (r : HoldReply). (library_of program given objects).machine.goes_on
+                        ∙ (ap (λ (r : HoldReply). (plain_of program given objects).machine.goes_on
                         state (Outcome.Replied (BySema r))) answered.told_is ∙ goes);
                     phase_is = led.known.now.phase_is;
                   };
@@ -424,7 +425,7 @@ module _ (program : Program) (given : Spot → Given) (objects : Objects) where
           out_of_line other apart = apart_numbers other sema (λ same. apart (sym same))
 
           -- and what the process has in the space
-          beside_space : (next : Position (library_of program given objects)) (t : SemaState)
+          beside_space : (next : Position (plain_of program given objects)) (t : SemaState)
               → Stays (such_calls program given objects) pid pid
               (rendez program given objects sema pid) at next
               → Changed program given objects at next sema t
@@ -436,7 +437,7 @@ module _ (program : Program) (given : Spot → Given) (objects : Objects) where
               (ap (λ (places : List Place). place_of places pid) changed.space)
 
           -- acts at the semaphore leave what the process has at the others
-          beside : (next : Position (library_of program given objects)) (t : SemaState)
+          beside : (next : Position (plain_of program given objects)) (t : SemaState)
               → Stays (such_calls program given objects) pid pid
               (rendez program given objects sema pid) at next
               → Changed program given objects at next sema t
@@ -500,7 +501,7 @@ module _ (program : Program) (given : Spot → Given) (objects : Objects) where
                 (with_state (such_calls program given objects) pid pid _ _ _
                 (In (spot_of pid (q.place pid)) (AtSema sema (Takes pid
                 (Waits (grants_of (sema_at program given objects at sema) pid)))))
-                (ap (λ (told : HoldReply). (library_of program given objects).machine.goes_on
+                (ap (λ (told : HoldReply). (plain_of program given objects).machine.goes_on
                 (In (spot_of pid (q.place pid)) (AtSema sema (Takes pid Begun)))
                 (Outcome.Replied (BySema told))) waits.told_is) known)
                 refl refl (rests.posted sema there) below_top (rests.level sema there))
@@ -683,10 +684,10 @@ module _ (program : Program) (given : Spot → Given) (objects : Objects) where
             away : Leads (such_calls program given objects) pid pid
                 (rendez program given objects sema pid)
                 (record {
-                  state = (library_of program given objects).machine.goes_on
+                  state = (plain_of program given objects).machine.goes_on
                       (In (spot_of pid (q.place pid)) (AtSema sema (Takes pid
                       (Leaving (fault.Interrupted (q.notes pid))))))
-                      (Outcome.Replied ((library_of program given objects).answer at.object
+                      (Outcome.Replied ((plain_of program given objects).answer at.object
                       (OfSema sema (Alone (Leave pid)))));
                   stage = phase.Idle;
                   flags = no_flags;
@@ -718,7 +719,7 @@ module _ (program : Program) (given : Spot → Given) (objects : Objects) where
                   stands = record {
                     state_is = away.known.now.state_is
                         ∙ (ap (λ (told : HoldReply).
-                        (library_of program given objects).machine.goes_on
+                        (plain_of program given objects).machine.goes_on
                         (In (spot_of pid (q.place pid)) (AtSema sema (Takes pid
                         (Leaving (fault.Interrupted (q.notes pid))))))
                         (Outcome.Replied (BySema told))) goes_away.told_is

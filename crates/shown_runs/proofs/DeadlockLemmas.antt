@@ -19,6 +19,7 @@ use Rattle.searches.specs.Stuck.{is_stuck}
 use Rattle.semaphore.specs.declared.limits.TheConstants.{LAST_GRANT}
 use Rattle.semaphore.specs.Units.{grants_of}
 use Rattle.tag_space.specs.Members.{rendez_of_member}
+use Rattle.calls.specs.declared.call.Call.TheVariants as call
 use Rattle.calls.specs.declared.course.Course.TheVariants as course
 use Rattle.calls.specs.declared.line.Line.{Line}
 use Rattle.calls.specs.declared.process.Want.{Want}
@@ -27,55 +28,84 @@ use Rattle.calls.specs.Machine.{system_of}
 use Rattle.calls.specs.Position.{Position, is_answered}
 use Rattle.calls.specs.Program.{IsProgram, Program, procs_of}
 use Rattle.schedules.specs.Program.{proc}
-use Rattle.call_machines.specs.Ends.{HasEnded, HasStopped, IsParked}
-use Rattle.call_machines.specs.Machine.{Next}
+use Rattle.call_machines.specs.Ends.{HasEnded, IsParked}
+use Rattle.call_machines.specs.IdleRuns.{HasStoppedIdle, Idles}
+use Rattle.call_machines.specs.Machine.{Next, next_with}
 use Rattle.call_machines.specs.Programs as machines
-use Rattle.call_machines.specs.Programs.{ProgramState, rests_at}
+use Rattle.call_machines.specs.Programs.{MayIdleIn, ProgramState, rests_at}
 use Rattle.call_machines.specs.Programs.ProgramState.{Ended, In}
-use Rattle.call_machines.specs.Runs.{OwnState, event_for, own_in, world_at}
+use Rattle.call_machines.specs.Runs.{OwnState, event_for, object_at, own_in, world_at}
 use Rattle.call_machines.specs.Schedules as runs
 use Rattle.call_machines.specs.Schedules.{state_of}
 use Rattle.call_machines.specs.WaitTables.WaitState.{Waits}
 use Rattle.sema_machines.specs.SemaRuns.CallState.{Takes}
-use Rattle.object_machines.specs.ObjectCalls.{ObjectCall, Objects, object_calls}
+use Rattle.object_machines.specs.ObjectCalls.{ObjectCall, ObjectOut, ObjectRequest, ObjectStates}
+use Rattle.object_machines.specs.ObjectCalls.{Objects, object_calls, object_does}
 use Rattle.space_machines.specs.MeetMachine.MeetState.{Calls}
 use Rattle.object_machines.specs.ObjectCalls.ObjectCall.{AtPipe, AtSema, InSpace}
-use Rattle.explored_calls.specs.LibraryCalls.{AreItsObjects, Given, HaveEnds, Spot, is_at_head}
-use Rattle.explored_calls.specs.LibraryCalls.{is_served_in, library_of, library_program, spot_in}
+use Rattle.timer_machines.specs.Requests.{TimedRequest}
+use Rattle.timer_machines.specs.Requests.TimedRequest.{ToDevice}
+use Rattle.timed_machines.specs.TimedCalls.{TimedObject, timed_calls}
+use Rattle.timed_machines.specs.TimedCalls.TimedCall.{Plain}
+use Rattle.timed_machines.specs.TimedCalls.TimedOut.{FromCall}
+use Rattle.timed_machines.specs.TimedEnds.{IsTick}
+use Rattle.timed_machines.specs.TimedObjects.{TimedObjectCall}
+use Rattle.explored_calls.specs.LibraryCalls.{AreItsObjects, Given, HaveEnds, Spot, TicksSo}
+use Rattle.explored_calls.specs.LibraryCalls.{is_at_head, is_served_in, spot_in}
+use Rattle.explored_calls.specs.TimedLibrary.{timed_library_of, timed_program}
+use Rattle.explored_calls.proofs.TickMoves.{is_tick}
 use Rattle.explored_calls.proofs.Queued.{Halt, Queued, Shows}
 use Rattle.explored_calls.proofs.Queued.Amid.{Blocks, ReadsOn, Wrote}
 use Rattle.explored_calls.proofs.Queued.Halt.{For, Free, Stays}
-use Rattle.shown_runs.specs.ShownRuns.{AreFewSteps, AreShownCalls, Deadlocks, NoneIsStuck, arrived}
+use Rattle.shown_runs.specs.ShownRuns.{AreFewSteps, AreShownCalls, Deadlocks, NoneIsStuck}
 use Rattle.shown_runs.specs.ShownRuns.{offered_at, rendez_at, spot_of, with_choices}
+use Rattle.shown_runs.proofs.Plain.{arrived, plain_of, plain_program}
 use Rattle.shown_runs.proofs.CallSteps.{in_library, procs_are}
+use Rattle.shown_runs.proofs.Idling.{tick_idles}
+use Rattle.shown_runs.proofs.Lifting.{lift, lift_reached, same_procs, some_procs, timed_such}
 use Rattle.shown_runs.proofs.Opening.{ends_there, followed, well_there}
 use Rattle.shown_runs.proofs.Plays.{are_with}
-use Rattle.shown_runs.proofs.Quiet.{Quiet, StandsBy, place_at, sema_at, such_calls}
+use Rattle.shown_runs.proofs.Quiet.{Quiet, StandsBy, place_at, sema_at}
 use Rattle.shown_runs.proofs.Seen.{seen, seen_by}
-use Rattle.shown_runs.proofs.Settling.{Settled, SettlesTo, none_told, settles_all, told_does}
-use Rattle.shown_runs.proofs.ShownLemmas.{RunTo, comes, run_to, state_after, state_still}
+use Rattle.shown_runs.proofs.ReachedRuns.{RunTo, run_to}
+use Rattle.shown_runs.proofs.Settling.{Settled, SettlesTo, none_told, settles_all}
+use Rattle.shown_runs.proofs.ShownLemmas.{at_place_after, comes, in_call_after, stage_after}
+use Rattle.shown_runs.proofs.ShownLemmas.{state_after, told_no_tick, told_sleeps}
 use Rattle.shown_runs.proofs.StuckLemmas.{HowStopped, Starves, each_stopped, none_wrote}
 use Rattle.shown_runs.proofs.StuckLemmas.{one_starves}
-use Rattle.shown_runs.proofs.StuckLemmas.HowStopped.{IsBlocked, IsInLine, IsOver}
+use Rattle.shown_runs.proofs.StuckLemmas.HowStopped.{IsBlocked, IsInLine, IsOver, IsTicking}
 use Rattle.shown_runs.proofs.WellLines.{HasEnds, IsWell}
 
 module _ (program : Program) (given : Spot → Given) (objects : Objects)
     (are : AreItsObjects program objects) (q : Queued) (most : ℕ)
-    (ways : List Bool) (at : runs.Position (library_of program given objects))
+    (ways : List Bool) (at : runs.Position (plain_of program given objects))
     (quiet : Quiet program given objects (seen none_told q) most ways at)
-    (next : runs.Position (library_of program given objects))
+    (next : runs.Position (plain_of program given objects))
     (settled : Settled program given objects are q most ways at quiet (procs_of program) next)
-    (to : RunTo (such_calls program given objects) next) where
+    (to : RunTo (timed_such program given objects) (lift program given objects next)) where
+  -- where a process is after the run
+  abbrev own : ℕ → OwnState (timed_library_of program given objects).machine
+  own pid = own_in (timed_library_of program given objects) pid to.run
+
   -- a process that sleeps in its call
   record IsSleeping (pid : ℕ) : Type 0 where
     rendez_is : RendezId
     number : ℕ
     made : ObjectCall
-    state_is : state_of (library_of program given objects) next pid
+    line : Line
+    line_is : slice_get program.lines (q.place pid) ≡ Some line
+    no_tick : is_tick line.call ≡ false
+    state_is : state_of (plain_of program given objects) next pid
         ≡ In (spot_of pid (q.place pid)) made
-    sleeps : (library_of program given objects).machine.does (In (spot_of pid (q.place pid)) made)
-        ≡ Next.Sleep rendez_is number
+    sleeps : object_does objects made ≡ Next.Sleep rendez_is number
     phase_is : phase_of next.world pid ≡ phase.Asleep rendez_is number
+
+  -- it is in that call after the run
+  sleeps_at : (pid : ℕ) (asleep : IsSleeping pid)
+      → (own pid).at ≡ In (spot_of pid (q.place pid)) (Plain asleep.made)
+  sleeps_at pid asleep =
+      in_call_after program given objects are q most ways at quiet (procs_of program) next settled
+      to pid (q.place pid) asleep.made asleep.line asleep.line_is asleep.no_tick asleep.state_is
 
   -- each that waits in a line does so
   asleep_so : (pid : ℕ) → pid < procs_of program → (what : Want) → q.waits pid ≡ For what
@@ -95,6 +125,9 @@ module _ (program : Program) (given : Spot → Given) (objects : Objects)
             number = grants_of (sema_at program given objects at sema) pid;
             made = AtSema sema (Takes pid
                 (Waits (grants_of (sema_at program given objects at sema) pid)));
+            line = asleep.line;
+            line_is = asleep.line_is;
+            no_tick = ap is_tick asleep.made;
             state_is = settled.states pid (λ less. other) ∙ asleep.state_is;
             sleeps = refl;
             phase_is = settled.phases pid (λ less. other) ∙ asleep.phase_is;
@@ -108,6 +141,9 @@ module _ (program : Program) (given : Spot → Given) (objects : Objects)
               offered = offered_at given pid (q.place pid) tag;
               at = Calls (Waits (place_at program given objects at pid).meetings);
             });
+            line = meets.line;
+            line_is = meets.line_is;
+            no_tick = ap is_tick meets.made;
             state_is = settled.states pid (λ less. other) ∙ meets.state_is;
             sleeps = refl;
             phase_is = settled.phases pid (λ less. other) ∙ meets.phase_is;
@@ -121,33 +157,37 @@ module _ (program : Program) (given : Spot → Given) (objects : Objects)
         rendez_is = sleeps.rendez_is;
         number = sleeps.number;
         made = AtPipe sleeps.pipe sleeps.made;
+        line = sleeps.line;
+        line_is = sleeps.line_is;
+        no_tick = told_no_tick program given objects are q most ways at quiet (procs_of program)
+            next settled to sleeps.made sleeps.told;
         state_is = sleeps.state_is;
-        sleeps = told_does program given objects pid (q.place pid) sleeps.made sleeps.told;
+        sleeps = told_sleeps program given objects are q most ways at quiet (procs_of program) next
+            settled to sleeps.made sleeps.told;
         phase_is = sleeps.phase_is;
       }
 
   -- where no line is, all calls are over
   ended_after : (pid : ℕ) → pid < procs_of program
       → slice_get program.lines (q.place pid) ≡ None
-      → HasEnded ((library_of program given objects).machine.does
-      (own_in (library_of program given objects) pid to.run).at)
+      → HasEnded ((timed_library_of program given objects).machine.does (own pid).at)
   ended_after pid low none = by (q.waits pid) refl (quiet.each pid low).stands
     where
       over : arrived program given objects pid (q.place pid) ≡ Ended
       over =
           ap (λ (found : Option Line). machines.at_place (object_calls objects)
-          (library_program program given) (spot_in pid (q.place pid) found)) none
+          (plain_program program given) (spot_in pid (q.place pid) found)) none
 
       by : (waits : Halt) → q.waits pid ≡ waits
           → StandsBy program given objects at pid (q.place pid) (seen_by waits false)
-          → HasEnded ((library_of program given objects).machine.does
-          (own_in (library_of program given objects) pid to.run).at)
+          → HasEnded ((timed_library_of program given objects).machine.does (own pid).at)
       by Free is idle =
-          subst (λ (s : ProgramState Spot ObjectCall). HasEnded
-          ((library_of program given objects).machine.does s))
-          (sym (state_still program given objects are q most ways at quiet (procs_of program) next
-          settled to pid Ended (λ blocks. let both : Free ≡ Stays Blocks = sym is ∙ blocks in cc)
-          (idle.state_is ∙ over))) tt
+          subst (λ (s : ProgramState Spot TimedObjectCall). HasEnded
+          ((timed_library_of program given objects).machine.does s))
+          (sym (state_after program given objects are q most ways at quiet (procs_of program) next
+          settled to pid Ended
+          (settled.states pid (λ less blocks.
+          let both : Free ≡ Stays Blocks = sym is ∙ blocks in cc) ∙ (idle.state_is ∙ over)))) tt
       by (For (want.Unit sema)) is asleep =
           let some = asleep.line_is in
           absurd (let both : None ≡ Some asleep.line = sym none ∙ some in cc)
@@ -161,26 +201,43 @@ module _ (program : Program) (given : Spot → Given) (objects : Objects)
           absurd (let both : None ≡ Some put.line = sym none ∙ put.line_is in cc)
       by (Stays (ReadsOn room)) is none = absurd none
 
+  -- whoever ticks for ever idles
+  idles_after : (pid : ℕ) → pid < procs_of program → (line : Line)
+      → slice_get program.lines (q.place pid) ≡ Some line → q.waits pid ≡ Free → (now : ℕ)
+      → line.call ≡ call.Ticks now → line.next ≡ q.place pid
+      → Idles (timed_library_of program given objects) (MayIdleIn IsTick)
+      (object_at (timed_library_of program given objects) to.run) (own pid).at
+  idles_after pid low line line_is free now made leads =
+      let idle = subst (λ (w : Halt). StandsBy program given objects at pid (q.place pid)
+      (seen_by w false)) free (quiet.each pid low).stands in
+      tick_idles program given objects pid (q.place pid) line line_is now made leads
+      (some_procs program given objects are pid low)
+      (object_at (timed_library_of program given objects) to.run)
+      (ap (λ (o : TimedObject ObjectStates). o.timers) to.object) (own pid).at
+      (at_place_after program given objects are q most ways at quiet (procs_of program) next settled
+      to pid (q.place pid)
+      (settled.states pid (λ less blocks.
+      let both : Free ≡ Stays Blocks = sym free ∙ blocks in cc) ∙ idle.state_is))
+
   -- whoever waits without notes is parked
   parked_after : (pid : ℕ) → pid < procs_of program → has_notes (q.notes pid) ≡ false
       → IsSleeping pid
-      → IsParked (world_at (library_of program given objects) to.run)
-      (event_for pid (own_in (library_of program given objects) pid to.run).stage
-      ((library_of program given objects).machine.does
-      (own_in (library_of program given objects) pid to.run).at))
-  parked_after pid low none asleep =
-      subst (λ (o : OwnState (library_of program given objects).machine).
-      IsParked (world_at (library_of program given objects) to.run)
-      (event_for pid o.stage ((library_of program given objects).machine.does o.at)))
-      (sym (to.own pid)) (
-        Look (proc pid),
-        ap (λ (s : ProgramState Spot ObjectCall). event_for pid (phase_of next.world pid)
-            ((library_of program given objects).machine.does s)) asleep.state_is
-            ∙ (ap (λ (p : Phase). event_for pid p ((library_of program given objects).machine.does
-            (In (spot_of pid (q.place pid)) asleep.made))) asleep.phase_is
-            ∙ ap (event_for pid (phase.Asleep asleep.rendez_is asleep.number)) asleep.sleeps),
-        ap (λ (w : State). answer_to w (Look (proc pid))) to.world ∙ parked.answered,
-      )
+      → IsParked (world_at (timed_library_of program given objects) to.run)
+      (event_for pid (own pid).stage
+      ((timed_library_of program given objects).machine.does (own pid).at))
+  parked_after pid low none asleep = (
+    Look (proc pid),
+    ap (λ (s : ProgramState Spot TimedObjectCall). event_for pid (own pid).stage
+        ((timed_library_of program given objects).machine.does s)) (sleeps_at pid asleep)
+        ∙ (ap (λ (n : Next ObjectRequest ObjectOut). event_for pid (own pid).stage
+        (machines.with_call (timed_calls (object_calls objects))
+        (timed_program objects program given) (next_with ToDevice FromCall n))) asleep.sleeps
+        ∙ ap (λ (p : Phase). event_for {Request = TimedRequest ObjectRequest} {Out = Unit} pid p
+        (Next.Sleep asleep.rendez_is asleep.number))
+        (stage_after program given objects are q most ways at quiet (procs_of program) next settled
+        to pid _ asleep.phase_is)),
+    ap (λ (w : State). answer_to w (Look (proc pid))) to.world ∙ parked.answered,
+  )
     where
       parked : FollowsTable next.world (Look (proc pid))
           (phase.Asleep asleep.rendez_is asleep.number) answer.Parked
@@ -200,38 +257,32 @@ module _ (program : Program) (given : Spot → Given) (objects : Objects)
 
   -- one that has made its call is in it
   pub in_call : (pid : ℕ) → pid < procs_of program → q.waits pid ≢ Free
-      → (made : ObjectCall) × ((own_in (library_of program given objects) pid to.run).at
-      ≡ In (spot_of pid (q.place pid)) made)
+      → (made : ObjectCall) × ((own pid).at ≡ In (spot_of pid (q.place pid)) (Plain made))
   in_call pid low waits = by (q.waits pid) refl (quiet.each pid low).stands
     where
       so : IsSleeping pid
-          → (made : ObjectCall) × ((own_in (library_of program given objects) pid to.run).at
-          ≡ In (spot_of pid (q.place pid)) made)
-      so asleep = (
-        asleep.made,
-        state_after program given objects are q most ways at quiet (procs_of program) next settled
-            to pid _ asleep.state_is,
-      )
+          → (made : ObjectCall) × ((own pid).at ≡ In (spot_of pid (q.place pid)) (Plain made))
+      so asleep = (asleep.made, sleeps_at pid asleep)
 
       by : (halt : Halt) → q.waits pid ≡ halt
           → StandsBy program given objects at pid (q.place pid) (seen_by halt false)
-          → (made : ObjectCall) × ((own_in (library_of program given objects) pid to.run).at
-          ≡ In (spot_of pid (q.place pid)) made)
+          → (made : ObjectCall) × ((own pid).at ≡ In (spot_of pid (q.place pid)) (Plain made))
       by Free is idle = absurd (waits is)
       by (For what) is stands = so (asleep_so pid low what is)
       by (Stays Blocks) is idle = so (asleep_there pid low is)
       by (Stays Wrote) is put = (
         _,
-        state_still program given objects are q most ways at quiet (procs_of program) next settled
-            to pid _ (λ blocks. let both : Stays Wrote ≡ Stays Blocks = sym is ∙ blocks in cc)
-            put.state_is,
+        in_call_after program given objects are q most ways at quiet (procs_of program) next settled
+            to pid (q.place pid) _ put.line put.line_is (ap is_tick put.made)
+            (settled.states pid (λ less blocks.
+            let both : Stays Wrote ≡ Stays Blocks = sym is ∙ blocks in cc) ∙ put.state_is),
       )
       by (Stays (ReadsOn room)) is none = absurd none
 
 module _ (program : Program) (given : Spot → Given) (objects : Objects)
     (are : AreItsObjects program objects)
     (shown : AreShownCalls program) (q : Queued) (most : ℕ) (ways choices : List Bool)
-    (at : runs.Position (library_of program given (with_choices objects choices)))
+    (at : runs.Position (plain_of program given (with_choices objects choices)))
     (quiet : Quiet program given (with_choices objects choices) (seen none_told q) most ways at)
     (position : Position) (shows : Shows (procs_of program) q position)
     (stuck : is_stuck (system_of program) position ≡ true) (well : IsWell program q)
@@ -256,6 +307,8 @@ module _ (program : Program) (given : Spot → Given) (objects : Objects)
           absurd (let both : None ≡ Some line = sym ended.none ∙ line_is in cc)
       by (IsInLine waits) =
           absurd (let both : For waits.what ≡ Stays Blocks = sym waits.waits ∙ blocks in cc)
+      by (IsTicking ticks) =
+          absurd (let both : Free ≡ Stays Blocks = sym ticks.waits ∙ blocks in cc)
       by (IsBlocked here) =
           let both : Some here.line ≡ Some line = sym here.line_is ∙ line_is in
           let same : here.line ≡ line = cc in
@@ -270,53 +323,70 @@ module _ (program : Program) (given : Spot → Given) (objects : Objects)
       few_steps
       nobody_wrote nobody_answered
 
-  to : RunTo (such_calls program given (with_choices objects choices)) settles.next
+  to : RunTo (timed_such program given (with_choices objects choices))
+      (lift program given (with_choices objects choices) settles.next)
   to =
-      run_to (such_calls program given (with_choices objects choices)) settles.next
-      settles.settled.reached
+      run_to (timed_such program given (with_choices objects choices)) _
+      (lift_reached program given (with_choices objects choices)
+      (are_with program objects choices are) settles.next settles.settled.reached)
 
-  -- each process has ended or is parked
-  stopped : HasStopped (library_of program given (with_choices objects choices)) to.run
+  -- each process has ended, is parked, or ticks for ever
+  stopped : HasStoppedIdle (timed_library_of program given (with_choices objects choices))
+      (MayIdleIn IsTick) to.run
   stopped pid below =
       by (each_stopped program shown q position shows stuck pid low)
     where
       low : pid < procs_of program
       low =
-          subst (λ (n : ℕ). pid < n) (procs_are program given (with_choices objects choices)) below
+          subst (λ (n : ℕ). pid < n) (same_procs program given (with_choices objects choices)
+          ∙ procs_are program given (with_choices objects choices)) below
 
       by : HowStopped program shown q position shows stuck pid
-          → HasEnded ((library_of program given (with_choices objects choices)).machine.does
-          (own_in (library_of program given (with_choices objects choices)) pid to.run).at)
-          ⊎ IsParked (world_at (library_of program given (with_choices objects choices)) to.run)
+          → HasEnded ((timed_library_of program given (with_choices objects choices)).machine.does
+          (own_in (timed_library_of program given (with_choices objects choices)) pid to.run).at)
+          ⊎ (IsParked (world_at (timed_library_of program given (with_choices objects choices))
+          to.run)
           (event_for pid
-          (own_in (library_of program given (with_choices objects choices)) pid to.run).stage
-          ((library_of program given (with_choices objects choices)).machine.does
-          (own_in (library_of program given (with_choices objects choices)) pid to.run).at))
+          (own_in (timed_library_of program given (with_choices objects choices)) pid
+          to.run).stage
+          ((timed_library_of program given (with_choices objects choices)).machine.does
+          (own_in (timed_library_of program given (with_choices objects choices)) pid to.run).at))
+          ⊎ Idles (timed_library_of program given (with_choices objects choices))
+          (MayIdleIn IsTick)
+          (object_at (timed_library_of program given (with_choices objects choices)) to.run)
+          (own_in (timed_library_of program given (with_choices objects choices)) pid to.run).at)
       by (IsOver ended) =
           inl (ended_after program given (with_choices objects choices)
           (are_with program objects choices are) q most ways at quiet settles.next settles.settled
           to pid low ended.none)
       by (IsInLine waits) =
-          inr (parked_after program given (with_choices objects choices)
+          inr (inl (parked_after program given (with_choices objects choices)
           (are_with program objects choices are) q most ways at quiet settles.next settles.settled
           to pid low waits.none
           (asleep_so program given (with_choices objects choices)
           (are_with program objects choices are) q most ways at quiet settles.next settles.settled
-          to pid low waits.what waits.waits))
+          to pid low waits.what waits.waits)))
       by (IsBlocked blocks) =
-          inr (parked_after program given (with_choices objects choices)
+          inr (inl (parked_after program given (with_choices objects choices)
           (are_with program objects choices are) q most ways at quiet settles.next settles.settled
           to pid low blocks.none
           (asleep_there program given (with_choices objects choices)
           (are_with program objects choices are) q most ways at quiet settles.next settles.settled
-          to pid low blocks.waits))
+          to pid low blocks.waits)))
+      by (IsTicking ticks) =
+          let so = subst (TicksSo (q.place pid) ticks.line) ticks.is
+          (shown.ticks (q.place pid) ticks.line ticks.line_is) in
+          inr (inr (idles_after program given (with_choices objects choices)
+          (are_with program objects choices are) q most ways at quiet settles.next settles.settled
+          to pid low ticks.line ticks.line_is ticks.waits ticks.now ticks.is so.0))
 
   -- and one waits where it should not
   starves : Starves program shown q position shows stuck
   starves = one_starves program shown q position shows stuck
 
   waits_on : rests_at (is_at_head program)
-      (own_in (library_of program given (with_choices objects choices)) starves.pid to.run).at
+      (own_in (timed_library_of program given (with_choices objects choices)) starves.pid
+      to.run).at
       ≡ false
   waits_on =
       let there = in_call program given (with_choices objects choices)
@@ -338,7 +408,9 @@ module _ (program : Program) (given : Spot → Given) (objects : Objects)
         };
         stopped = stopped;
         pid = starves.pid;
-        below = in_library program given (with_choices objects choices) starves.pid starves.low;
+        below = subst (λ (n : ℕ). starves.pid < n)
+            (sym (same_procs program given (with_choices objects choices)))
+            (in_library program given (with_choices objects choices) starves.pid starves.low);
         waits = waits_on;
       }
 

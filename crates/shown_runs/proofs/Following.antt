@@ -1,6 +1,6 @@
 -- Each step of the explorer's machine is made by acts of the library's calls.
 use Rattle.std.proofs.Common.{◌≡◌, ℕ, ◌+◌, ◌-◌, ◌<◌, ◌≤◌}
-use Rattle.std.proofs.Common.{Bool, if◌then◌else◌, true, false, Option, Some, None}
+use Rattle.std.proofs.Common.{Bool, if◌then◌else◌, true, false, ◌&&◌, Option, Some, None}
 use Rattle.std.proofs.Common.{nat_lt, refl, sym, ap, ◌∙◌, arith}
 use Rattle.std.specs.Prelude.{slice_get}
 use Rattle.std.proofs.lemmas.Bool.Decides.{nat_tests}
@@ -15,6 +15,7 @@ use Rattle.calls.specs.Machine.{system_of}
 use Rattle.calls.specs.Position.{Position, by_course, is_answered, moves, status_of}
 use Rattle.calls.specs.Position.{status_of_one, turning_of_one}
 use Rattle.calls.specs.Program.{Program, procs_of}
+use Rattle.calls.specs.Timers.{is_early}
 use Rattle.explored_calls.proofs.ExplorerSteps.{IsAtCall, IsInLine}
 use Rattle.explored_calls.proofs.Queued.{Halt, Queued, Shows, process_of}
 use Rattle.explored_calls.proofs.Queued.Amid.{Blocks, ReadsOn, Wrote}
@@ -31,6 +32,8 @@ module _ (program : Program) (q : Queued) (at : Position)
     pub line : Line
     -- the process has not made the call there
     pub is_at : IsAtCall program q mover line
+    -- and does not rest by itself
+    pub not_early : (line.is_served && is_early at.processes line.call) ≡ false
 
   -- one that waits made its call again,
   pub record Again (mover : ℕ) : Type 0 where
@@ -115,6 +118,11 @@ module _ (program : Program) (q : Queued) (at : Position)
     IsChoice : Chooses mover → Which mover
     IsEnd : Ends mover → Which mover
 
+  early_so : (test : Bool) → (if test then status.Ended else status.Ready) ≡ status.Ready
+      → test ≡ false
+  early_so true is = cc
+  early_so false is = refl
+
   resting_so : (served : Bool) → (if served then status.Ended else status.Parked) ≡ status.Ready → ⊥
   resting_so true is = cc
   resting_so false is = cc
@@ -152,6 +160,7 @@ module _ (program : Program) (q : Queued) (at : Position)
               IsFirst (record {
                 line = line;
                 is_at = record { low = low; line_is = is; waits = none };
+                not_early = early_so _ (sym (rw (is, none) refl) ∙ ready);
               })
           by_wait (For what) some =
               absurd (resting_so line.is_served (sym (rw (is, some) refl) ∙ ready))

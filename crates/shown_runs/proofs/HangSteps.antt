@@ -31,8 +31,7 @@ use Rattle.object_machines.specs.ObjectCalls.{ObjectCall, ObjectStates, Objects,
 use Rattle.object_machines.specs.ObjectCalls.{object_does, pipe_at}
 use Rattle.object_machines.specs.ObjectCalls.ObjectCall.{AtPipe}
 use Rattle.object_machines.specs.ObjectCalls.ObjectRequest.{OfPipe}
-use Rattle.explored_calls.specs.LibraryCalls.{AreItsObjects, Given, HasEnd, Spot, library_of}
-use Rattle.explored_calls.specs.LibraryCalls.{library_program}
+use Rattle.explored_calls.specs.LibraryCalls.{AreItsObjects, Given, HasEnd, Spot}
 use Rattle.explored_calls.proofs.Directions.{hang_is_shown, shown}
 use Rattle.explored_calls.proofs.Lists.{at_one}
 use Rattle.explored_calls.proofs.PipePhases.{IsQuiet, PipeFits, PipesFit}
@@ -40,7 +39,8 @@ use Rattle.explored_calls.proofs.PipesMoved as moved
 use Rattle.explored_calls.proofs.Queued.{Halt, Queued}
 use Rattle.explored_calls.proofs.Queued.Amid.{Blocks}
 use Rattle.explored_calls.proofs.Queued.Halt.{Free, Stays as IsAmid}
-use Rattle.shown_runs.specs.ShownRuns.{arrived, spot_of}
+use Rattle.shown_runs.specs.ShownRuns.{spot_of}
+use Rattle.shown_runs.proofs.Plain.{arrived, plain_of, plain_program}
 use Rattle.shown_runs.proofs.Acts.{Leads, leaves_noted}
 use Rattle.shown_runs.proofs.CallSteps.{at_call, begins, every, in_library, known_idle, leads_to}
 use Rattle.shown_runs.proofs.Piped.{AreDue, IsOf, arrived_quiet, direction_at, of_world, reader_of}
@@ -61,7 +61,7 @@ there_low (y ∷ xs) (suc i) x there = let low = there_low xs i x there in omega
 
 module _ (program : Program) (given : Spot → Given) (objects : Objects)
     (are : AreItsObjects program objects) (q : Queued) (most : ℕ) (ways : List Bool)
-    (at : Position (library_of program given objects))
+    (at : Position (plain_of program given objects))
     (quiet : Quiet program given objects q most ways at) (pid : ℕ) (low : pid < procs_of program)
     (line : Line) (line_is : slice_get program.lines (q.place pid) ≡ Some line) where
   abbrev spot : Spot
@@ -77,7 +77,7 @@ module _ (program : Program) (given : Spot → Given) (objects : Objects)
     d = direction_at program given objects at pipe
 
     abbrev fit : PipeFits objects program d
-        (λ (n : ℕ). state_of (library_of program given objects) at n) q.pipes pipe
+        (λ (n : ℕ). state_of (plain_of program given objects) at n) q.pipes pipe
     fit = quiet.piped.fits.each pipe there
 
     -- the explorer has it so
@@ -94,7 +94,7 @@ module _ (program : Program) (given : Spot → Given) (objects : Objects)
     -- where the process is after its call has become this
     abbrev landed : CallState → ProgramState Spot ObjectCall
     landed call_is =
-        machines.follows (object_calls objects) (library_program program given) spot
+        machines.follows (object_calls objects) (plain_program program given) spot
         (AtPipe pipe call_is) (object_does objects (AtPipe pipe call_is))
 
     -- all of its Rendez are woken
@@ -106,7 +106,7 @@ module _ (program : Program) (given : Spot → Given) (objects : Objects)
           top = TOP_LEVEL;
         }
 
-    was_quiet : IsQuiet objects (state_of (library_of program given objects) at pid)
+    was_quiet : IsQuiet objects (state_of (plain_of program given objects) at pid)
     was_quiet =
         quiet_by program given objects at pid (q.place pid) Free tt
         (subst (λ (w : Halt). StandsBy program given objects at pid (q.place pid) w) none
@@ -176,16 +176,16 @@ module _ (program : Program) (given : Spot → Given) (objects : Objects)
 
     fits_then : PipesFit objects program (slice_set at.object.pipes pipe hung_now)
         (at_one pid (arrived program given objects pid line.next)
-        (λ (n : ℕ). state_of (library_of program given objects) at n))
+        (λ (n : ℕ). state_of (plain_of program given objects) at n))
         (slice_set q.pipes pipe (hung x))
     fits_then =
         subst (λ (one : Direction). PipesFit objects program
         (slice_set at.object.pipes pipe hung_now)
         (at_one pid (arrived program given objects pid line.next)
-        (λ (n : ℕ). state_of (library_of program given objects) at n))
+        (λ (n : ℕ). state_of (plain_of program given objects) at n))
         (slice_set q.pipes pipe (hung one))) (sym shown_is)
         (moved.same_puts objects program at.object.pipes
-        (λ (n : ℕ). state_of (library_of program given objects) at n) q.pipes pid low
+        (λ (n : ℕ). state_of (plain_of program given objects) at n) q.pipes pid low
         quiet.piped.fits pipe there (arrived program given objects pid line.next)
         (arrived_quiet program given objects pid line.next).awake
         (λ other apart. was_quiet.puts other)
@@ -220,7 +220,7 @@ module _ (program : Program) (given : Spot → Given) (objects : Objects)
               (ap (λ (o : ObjectStates). o.pipes) goes.object_is)
               (subst (PipesFit objects program (slice_set at.object.pipes pipe hung_now)
               (at_one pid (arrived program given objects pid line.next)
-              (λ (n : ℕ). state_of (library_of program given objects) at n))) (sym pipes_are)
+              (λ (n : ℕ). state_of (plain_of program given objects) at n))) (sym pipes_are)
               fits_then) due_then);
         }
 
@@ -264,30 +264,30 @@ module _ (program : Program) (given : Spot → Given) (objects : Objects)
     -- it sleeps there
     does_so : (made : CallState)
         → WasTold program given objects spot line told.pipe told.number told.rendez_is made
-        → (library_of program given objects).machine.does (In spot (AtPipe told.pipe made))
+        → (plain_of program given objects).machine.does (In spot (AtPipe told.pipe made))
         ≡ Next.Sleep told.rendez_is told.number
     does_so made (ToRead room is rendez_same at_is) =
-        ap (λ (c : CallState). (library_of program given objects).machine.does
+        ap (λ (c : CallState). (plain_of program given objects).machine.does
         (In spot (AtPipe told.pipe c))) at_is
         ∙ ap (λ (r : RendezId). Next.Sleep r told.number) (sym rendez_same)
     does_so made (ToWrite bytes is rendez_same at_is) =
-        ap (λ (c : CallState). (library_of program given objects).machine.does
+        ap (λ (c : CallState). (plain_of program given objects).machine.does
         (In spot (AtPipe told.pipe c))) at_is
         ∙ ap (λ (r : RendezId). Next.Sleep r told.number) (sym rendez_same)
 
     -- and goes the other way
     fails_so : (made : CallState)
         → WasTold program given objects spot line told.pipe told.number told.rendez_is made
-        → (library_of program given objects).machine.goes_on (In spot (AtPipe told.pipe made))
+        → (plain_of program given objects).machine.goes_on (In spot (AtPipe told.pipe made))
         (Outcome.Slept (Err (fault.Interrupted (q.notes pid))))
         ≡ arrived program given objects pid line.other
     fails_so made (ToRead room is rendez_same at_is) =
-        ap (λ (c : CallState). (library_of program given objects).machine.goes_on
+        ap (λ (c : CallState). (plain_of program given objects).machine.goes_on
         (In spot (AtPipe told.pipe c)) (Outcome.Slept (Err (fault.Interrupted (q.notes pid)))))
         at_is
         ∙ leads_to program given objects pid (q.place pid) line ending.Interrupted line_is
     fails_so made (ToWrite bytes is rendez_same at_is) =
-        ap (λ (c : CallState). (library_of program given objects).machine.goes_on
+        ap (λ (c : CallState). (plain_of program given objects).machine.goes_on
         (In spot (AtPipe told.pipe c)) (Outcome.Slept (Err (fault.Interrupted (q.notes pid)))))
         at_is
         ∙ leads_to program given objects pid (q.place pid) line ending.Interrupted line_is
@@ -296,7 +296,7 @@ module _ (program : Program) (given : Spot → Given) (objects : Objects)
     free_there = (quiet.piped.due told.pipe told.low).free _ of_it
 
     left : Leads (such_calls program given objects) pid pid told.rendez_is.0 (record {
-      state = (library_of program given objects).machine.goes_on
+      state = (plain_of program given objects).machine.goes_on
           (In spot (AtPipe told.pipe told.made))
           (Outcome.Slept (Err (fault.Interrupted (q.notes pid))));
       stage = phase.Idle;
@@ -348,7 +348,7 @@ module _ (program : Program) (given : Spot → Given) (objects : Objects)
           choices = ap (λ (o : ObjectStates). o.choices) left.known.now.object_is;
         }
 
-    state_then : state_of (library_of program given objects) left.next pid
+    state_then : state_of (plain_of program given objects) left.next pid
         ≡ arrived program given objects pid line.other
     state_then = left.known.now.state_is ∙ fails_so told.made told_so
 

@@ -19,13 +19,15 @@ use Rattle.explored_calls.proofs.ExplorerSteps.{IsAtCall, begins_after}
 use Rattle.explored_calls.proofs.Queued.{Halt}
 use Rattle.shown_runs.specs.ShownRuns.{AreFewSteps, AreShownCalls, ComesToNever, IsPlayed}
 use Rattle.shown_runs.specs.ShownRuns.{with_choices}
+use Rattle.shown_runs.proofs.Lifting.{lift_reached, timed_such}
 use Rattle.shown_runs.proofs.Opening.{IsFollowed, ends_there, followed, open_before, well_there}
 use Rattle.shown_runs.proofs.Played.{Stepped, steps}
 use Rattle.shown_runs.proofs.Plays.{are_with}
-use Rattle.shown_runs.proofs.Quiet.{StandsBy, such_calls}
+use Rattle.shown_runs.proofs.Quiet.{StandsBy}
+use Rattle.shown_runs.proofs.ReachedRuns.{run_to}
 use Rattle.shown_runs.proofs.Seen.{seen_by}
 use Rattle.shown_runs.proofs.Settling.{none_told, settled_first}
-use Rattle.shown_runs.proofs.ShownLemmas.{comes, run_to, stage_after, state_after}
+use Rattle.shown_runs.proofs.ShownLemmas.{at_place_after, comes, stage_after}
 
 -- a schedule of few steps had fewer before its last one
 fewer : {program : Program} (mover : ℕ) (past : List ℕ) → AreFewSteps program (mover ∷ past)
@@ -97,8 +99,9 @@ module _ (program : Program) (given : Spot → Given) (objects : Objects)
       → IsPlayed program given objects at
   played_at past before at same =
       let plays = before.plays [] none_told in
-      let to = run_to (such_calls program given (with_choices objects plays.choices)) plays.at
-      plays.quiet.reached in
+      let to = run_to (timed_such program given (with_choices objects plays.choices)) _
+      (lift_reached program given (with_choices objects plays.choices)
+      (are_with program objects plays.choices are) plays.at plays.quiet.reached) in
       let there = comes program given (with_choices objects plays.choices)
       (are_with program objects plays.choices are) before.q (length past) [] plays.at plays.quiet 0
       plays.at
@@ -147,8 +150,9 @@ module _ (program : Program) (given : Spot → Given) (objects : Objects)
       by : StopsThere movers → ComesToNever program given objects
       by there =
           let plays = there.before.plays [] none_told in
-          let to = run_to (such_calls program given (with_choices objects plays.choices)) plays.at
-          plays.quiet.reached in
+          let to = run_to (timed_such program given (with_choices objects plays.choices)) _
+          (lift_reached program given (with_choices objects plays.choices)
+          (are_with program objects plays.choices are) plays.at plays.quiet.reached) in
           let idle = subst (λ (w : Halt). StandsBy program given
           (with_choices objects plays.choices) plays.at there.pid (there.before.q.place there.pid)
           (seen_by w false)) there.is_at.waits (plays.quiet.each there.pid there.is_at.low).stands
@@ -167,7 +171,7 @@ module _ (program : Program) (given : Spot → Given) (objects : Objects)
             line_is = there.is_at.line_is;
             never = there.never;
             there = record {
-              at = state_after program given (with_choices objects plays.choices)
+              at = at_place_after program given (with_choices objects plays.choices)
                   (are_with program objects plays.choices are) there.before.q (length there.past)
                   [] plays.at plays.quiet 0 plays.at settled to there.pid _ idle.state_is;
               idle = stage_after program given (with_choices objects plays.choices)

@@ -4,7 +4,9 @@ pub mod DeadlockLemmas
 pub mod Following
 pub mod Grants
 pub mod HangSteps
+pub mod Idling
 pub mod LawLemmas
+pub mod Lifting
 pub mod MeetSteps
 pub mod Opening
 pub mod OwnSteps
@@ -12,10 +14,12 @@ pub mod PipePlayed
 pub mod PipeShown
 pub mod PipeSteps
 pub mod Piped
+pub mod Plain
 pub mod Played
 pub mod Plays
 pub mod Quiet
 pub mod QuietSteps
+pub mod ReachedRuns
 pub mod ReadSteps
 pub mod ReleaseFacts
 pub mod ReleaseSteps

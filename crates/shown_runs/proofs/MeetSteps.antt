@@ -49,7 +49,7 @@ use Rattle.object_machines.specs.ObjectCalls.ObjectCall.{InSpace}
 use Rattle.object_machines.specs.ObjectCalls.ObjectReply.{BySpace}
 use Rattle.object_machines.specs.ObjectCalls.ObjectRequest.{OfSpace}
 use Rattle.object_machines.specs.ObjectEnds.{is_space_unworn}
-use Rattle.explored_calls.specs.LibraryCalls.{AreItsObjects, Given, Spot, library_of}
+use Rattle.explored_calls.specs.LibraryCalls.{AreItsObjects, Given, Spot}
 use Rattle.explored_calls.proofs.Lists.{at_one}
 use Rattle.explored_calls.proofs.Queued.{AreLines, Halt, Queued, gives_up, gone, joins}
 use Rattle.explored_calls.proofs.Queued.{served_at, serves}
@@ -58,7 +58,8 @@ use Rattle.explored_calls.proofs.SpaceFacts.{collects, leaves, waiter_gone, wait
 use Rattle.explored_calls.proofs.LineLemmas.{left_alone}
 use Rattle.explored_calls.proofs.SpaceFacts.{nobody_waits, waiter_waits, waits_in}
 use Rattle.explored_calls.proofs.Queued.Halt.{For, Free}
-use Rattle.shown_runs.specs.ShownRuns.{arrived, offered_at, spot_of}
+use Rattle.shown_runs.specs.ShownRuns.{offered_at, spot_of}
+use Rattle.shown_runs.proofs.Plain.{arrived, plain_of}
 use Rattle.shown_runs.proofs.Acts.{Here, Known, Leads, asks, falls_asleep, goes_on_noted}
 use Rattle.shown_runs.proofs.Acts.{goes_on_well, is_noted, led_so, on, returns, wakes, with_state}
 use Rattle.shown_runs.proofs.CallSteps.{at_call, at_else, at_self, begins, idle_of}
@@ -125,7 +126,7 @@ module _ (program : Program) (given : Spot → Given) (objects : Objects)
       omega arith
 
   module _ (q : Queued) (most : ℕ) (ways : List Bool)
-      (at : Position (library_of program given objects))
+      (at : Position (plain_of program given objects))
       (quiet : Quiet program given objects q most ways at) (pid : ℕ) (low : pid < procs_of program)
     where
       member_there : pid < length at.object.space
@@ -141,7 +142,7 @@ module _ (program : Program) (given : Spot → Given) (objects : Objects)
           }))
 
       -- it rests at the semaphores as one that waits for nothing
-      rests_as : (next : Position (library_of program given objects)) (tag more : ℕ) (set : NoteSet)
+      rests_as : (next : Position (plain_of program given objects)) (tag more : ℕ) (set : NoteSet)
           → Rests program given objects next pid Free Waiting set more
           → Rests program given objects next pid (For (want.Partner tag)) Waiting set more
       rests_as next tag more set rests =
@@ -226,7 +227,7 @@ module _ (program : Program) (given : Spot → Given) (objects : Objects)
             (meeting_low pid low) _ _ (place_at program given objects at pid).meetings
             (with_state (such_calls program given objects) pid pid _ _ _
             (in_call pid tag (Calls (Waits (place_at program given objects at pid).meetings)))
-            (ap (λ (told : GroupReply). (library_of program given objects).machine.goes_on
+            (ap (λ (told : GroupReply). (plain_of program given objects).machine.goes_on
             (in_call pid tag (Calls Begun)) (Outcome.Replied (BySpace told))) waits.told_is) known)
             refl refl placed.posted below_top placed.level)
 
@@ -390,9 +391,9 @@ module _ (program : Program) (given : Spot → Given) (objects : Objects)
         away : Leads (such_calls program given objects) pid pid
             (meeting program given objects pid)
             (record {
-              state = (library_of program given objects).machine.goes_on
+              state = (plain_of program given objects).machine.goes_on
                   (in_call pid tag (Calls (Leaving (fault.Interrupted (q.notes pid)))))
-                  (Outcome.Replied ((library_of program given objects).answer at.object
+                  (Outcome.Replied ((plain_of program given objects).answer at.object
                   (OfSpace (Leave pid))));
               stage = phase.Idle;
               flags = no_flags;
@@ -448,7 +449,7 @@ module _ (program : Program) (given : Spot → Given) (objects : Objects)
             record {
               stands = record {
                 state_is = away.known.now.state_is
-                    ∙ (ap (λ (told : GroupReply). (library_of program given objects).machine.goes_on
+                    ∙ (ap (λ (told : GroupReply). (plain_of program given objects).machine.goes_on
                     (in_call pid tag (Calls (Leaving (fault.Interrupted (q.notes pid)))))
                     (Outcome.Replied (BySpace told))) goes_away.told_is
                     ∙ leads_to program given objects pid (q.place pid) line ending.Interrupted
@@ -570,7 +571,7 @@ module _ (program : Program) (given : Spot → Given) (objects : Objects)
 
   module _ (one place tag number level : ℕ) (set : NoteSet) (line : Line)
       (low : one < procs_of program) (line_is : slice_get program.lines place ≡ Some line)
-      (at : Position (library_of program given objects)) (object : ObjectStates)
+      (at : Position (plain_of program given objects)) (object : ObjectStates)
       (there : one < length object.space) (met : is_met (place_of object.space one).state ≡ true)
     where
       -- where it is in its machine, in this state of its rendezvous
@@ -658,7 +659,7 @@ module _ (program : Program) (given : Spot → Given) (objects : Objects)
           (λ known. asks (such_calls program given objects) one one _ _ _ known
           (in_library program given objects one low) (OfSpace (Collect one)) refl
           (ap is_space_unworn collects_value.told_is)))
-          (ap (λ (told : GroupReply). (library_of program given objects).machine.goes_on
+          (ap (λ (told : GroupReply). (plain_of program given objects).machine.goes_on
           (met_call (Calls Asking)) (Outcome.Replied (BySpace told))) collects_value.told_is
           ∙ leads_to program given objects one place line ending.Done line_is)
           (ap (λ (n : NoteSet). record { wake = false; notes = n })
@@ -688,7 +689,7 @@ module _ (program : Program) (given : Spot → Given) (objects : Objects)
           (asks (such_calls program given objects) one one _ _ _ known
           (in_library program given objects one low) (OfSpace (Leave one)) refl
           (ap is_space_unworn leaves_with_value.told_is))
-          (ap (λ (told : GroupReply). (library_of program given objects).machine.goes_on
+          (ap (λ (told : GroupReply). (plain_of program given objects).machine.goes_on
           (met_call (Calls (Leaving (fault.Interrupted set))))
           (Outcome.Replied (BySpace told))) leaves_with_value.told_is) refl refl)
           (λ left. returns (such_calls program given objects) one
@@ -715,7 +716,7 @@ module _ (program : Program) (given : Spot → Given) (objects : Objects)
   -- ---- a rendezvous that finds a partner
 
   module _ (q : Queued) (most : ℕ) (ways : List Bool)
-      (at : Position (library_of program given objects))
+      (at : Position (plain_of program given objects))
       (quiet : Quiet program given objects q most ways at) (lines : AreLines (procs_of program) q)
       (pid : ℕ) (low : pid < procs_of program) (line : Line) (none : q.waits pid ≡ Free)
       (line_is : slice_get program.lines (q.place pid) ≡ Some line) (tag : ℕ)
@@ -831,7 +832,7 @@ module _ (program : Program) (given : Spot → Given) (objects : Objects)
         }) (in_library program given objects pid low)
         (OfSpace (Call pid (tag_of tag) (given (spot_of pid (q.place pid))).value)) refl
         (ap is_space_unworn met_by.told_is))
-        (ap (λ (told : GroupReply). (library_of program given objects).machine.goes_on
+        (ap (λ (told : GroupReply). (plain_of program given objects).machine.goes_on
         (in_it (Calls Begun)) (Outcome.Replied (BySpace told))) met_by.told_is)
         refl (ap (λ (l : List Place). record at.object { space = l }) met_by.after_is))
         (λ known. led_so (such_calls program given objects) pid w _ _ _

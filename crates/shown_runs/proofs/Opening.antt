@@ -43,14 +43,16 @@ use Rattle.pipe_machines.specs.PipeRuns.{CallState, DirectionState}
 use Rattle.object_machines.specs.ObjectCalls.{ObjectOut, Objects, object_calls, opening_pipe}
 use Rattle.object_machines.specs.ObjectCalls.{opening_sema, pipe_at, sema_of}
 use Rattle.object_machines.specs.ObjectCalls.ObjectOut.{FromAlone}
-use Rattle.explored_calls.specs.LibraryCalls.{AreItsObjects, Spot, library_of, library_program}
+use Rattle.explored_calls.specs.LibraryCalls.{AreItsObjects, Spot}
 use Rattle.explored_calls.specs.LibraryCalls.{Given, HasEndIn, HaveEnds, ended_as, place_after}
 use Rattle.explored_calls.specs.LibraryCalls.{spot_at, spot_in, starts_from}
 use Rattle.explored_calls.proofs.PipePhases.{IsQuiet, PipeFits, pipe_in}
 use Rattle.explored_calls.proofs.Queued.{Amid, Halt, Queued, Shows}
 use Rattle.explored_calls.proofs.Queued.Amid.{Blocks, ReadsOn, Wrote}
 use Rattle.explored_calls.proofs.Queued.Halt.{Free, Stays}
-use Rattle.shown_runs.specs.ShownRuns.{AreFewSteps, AreShownCalls, arrived, spot_of, with_choices}
+use Rattle.shown_runs.specs.ShownRuns.{AreFewSteps, AreShownCalls, spot_of, with_choices}
+use Rattle.explored_calls.specs.LibraryCalls.{library_program}
+use Rattle.shown_runs.proofs.Plain.{arrived, plain_of, plain_program}
 use Rattle.shown_runs.proofs.CallSteps.{starts_long}
 use Rattle.shown_runs.proofs.Piped.{AreDue, Piped, arrived_quiet}
 use Rattle.shown_runs.proofs.Played.{Stepped, steps}
@@ -118,15 +120,15 @@ nobody_first members tag = by (waiter_of (space.opening members 0) tag) refl
 
 module _ (program : Program) (given : Spot → Given) (objects : Objects)
     (are : AreItsObjects program objects) where
-  abbrev opening : runs.Position (library_of program given objects)
-  opening = runs.position_of (library_of program given objects) []
+  abbrev opening : runs.Position (plain_of program given objects)
+  opening = runs.position_of (plain_of program given objects) []
 
   sema_procs : (sema : ℕ) → sema < length program.values
       → (sema_of objects sema).sema.procs ≡ procs_of program
   sema_procs sema low = (are.world.semas sema (rw are.semas_are low)).procs_are ∙ are.procs_are
 
   opening_is : (sema : ℕ) → sema < length program.values
-      → sema_at program given objects (runs.position_of (library_of program given objects) []) sema
+      → sema_at program given objects (runs.position_of (plain_of program given objects) []) sema
       ≡ opening_sema (sema_of objects sema)
   opening_is sema low =
       get_or-map opening_sema objects.semas sema objects.none (opening_sema objects.none)
@@ -134,21 +136,21 @@ module _ (program : Program) (given : Spot → Given) (objects : Objects)
 
   first_state : (pid : ℕ) → pid < procs_of program
       → slice_index_or
-      (map (machines.at_place (object_calls objects) (library_program program given))
+      (map (machines.at_place (object_calls objects) (plain_program program given))
       (starts_from program 0 program.starts)) pid Ended
       ≡ arrived program given objects pid (slice_index program.starts pid)
   first_state pid low =
       let long : pid < length (starts_from program 0 program.starts) =
       rw (starts_long program 0 program.starts) low in
       let same : 0 + pid ≡ pid = omega arith in
-      get_or-map (machines.at_place (object_calls objects) (library_program program given))
+      get_or-map (machines.at_place (object_calls objects) (plain_program program given))
       (starts_from program 0 program.starts) pid None Ended long
-      ∙ (ap (machines.at_place (object_calls objects) (library_program program given))
+      ∙ (ap (machines.at_place (object_calls objects) (plain_program program given))
       (starts_at program 0 program.starts pid low)
       ∙ ap (λ (n : ℕ). arrived program given objects n (slice_index program.starts pid)) same)
 
   first_rests : (pid : ℕ)
-      → Rests program given objects (runs.position_of (library_of program given objects) []) pid
+      → Rests program given objects (runs.position_of (plain_of program given objects) []) pid
       Free Waiting no_notes 0
   first_rests pid =
       record {
@@ -167,7 +169,7 @@ module _ (program : Program) (given : Spot → Given) (objects : Objects)
       }
 
   first_placed : (pid : ℕ)
-      → Placed program given objects (runs.position_of (library_of program given objects) []) pid
+      → Placed program given objects (runs.position_of (plain_of program given objects) []) pid
       false 0
   first_placed pid =
       record {
@@ -183,7 +185,7 @@ module _ (program : Program) (given : Spot → Given) (objects : Objects)
       }
     where
       fresh : place_at program given objects
-          (runs.position_of (library_of program given objects) []) pid ≡ fresh_place 0
+          (runs.position_of (plain_of program given objects) []) pid ≡ fresh_place 0
       fresh = get_or-replicate_same {X = Place} objects.space.procs pid (fresh_place 0)
 
   -- a direction as it opens
@@ -196,8 +198,8 @@ module _ (program : Program) (given : Spot → Given) (objects : Objects)
 
   -- each process is about to make a call, and has put nothing
   first_calls : (pid : ℕ) → pid < procs_of program
-      → IsQuiet objects (state_of (library_of program given objects)
-      (runs.position_of (library_of program given objects) []) pid)
+      → IsQuiet objects (state_of (plain_of program given objects)
+      (runs.position_of (plain_of program given objects) []) pid)
   first_calls pid low =
       subst (IsQuiet objects) (sym (first_state pid low))
       (arrived_quiet program given objects pid (slice_index program.starts pid))
@@ -205,14 +207,14 @@ module _ (program : Program) (given : Spot → Given) (objects : Objects)
   -- nothing was written to a direction, and nobody woken there
   first_piped : Piped program given objects
       (replicate (length program.pipes) empty_direction) 0
-      (runs.position_of (library_of program given objects) [])
+      (runs.position_of (plain_of program given objects) [])
   first_piped =
       record {
         fits = record {
           many = length-map objects.pipes opening_pipe ∙ are.pipes_are;
           each = λ pipe low. subst (λ (d : DirectionState). PipeFits objects program d
-              (λ (pid : ℕ). state_of (library_of program given objects)
-              (runs.position_of (library_of program given objects) []) pid)
+              (λ (pid : ℕ). state_of (plain_of program given objects)
+              (runs.position_of (plain_of program given objects) []) pid)
               (replicate (length program.pipes) empty_direction) pipe)
               (sym (opens_pipe pipe low)) (record {
                 by = λ number. None;
@@ -231,7 +233,7 @@ module _ (program : Program) (given : Spot → Given) (objects : Objects)
           awake = λ pid low. (first_calls pid low).awake;
         };
         due = λ pipe low. subst (λ (d : DirectionState). AreDue program given objects
-            (core.opening (procs (library_of program given objects)) objects.rendez) d pipe 0)
+            (core.opening (procs (plain_of program given objects)) objects.rendez) d pipe 0)
             (sym (opens_pipe pipe low)) (record {
               free = λ k of. get_or-replicate_same {X = ℕ} objects.rendez k 0;
               reader = λ open_so.
@@ -248,7 +250,7 @@ module _ (program : Program) (given : Spot → Given) (objects : Objects)
 
   -- So the opening is quiet.
   pub first_quiet : Quiet program given objects (first program) 0 objects.choices
-      (runs.position_of (library_of program given objects) [])
+      (runs.position_of (plain_of program given objects) [])
   first_quiet =
       record {
         reached = record { movers = []; below = tt; is = refl; asked = tt };
@@ -452,7 +454,7 @@ module _ (program : Program) (given : Spot → Given) (objects : Objects)
           come = comes_first program given;
           plays = λ ways told. record {
             choices = ways;
-            at = runs.position_of (library_of program given (with_choices objects ways)) [];
+            at = runs.position_of (plain_of program given (with_choices objects ways)) [];
             quiet = first_quiet program given (with_choices objects ways)
                 (are_with program objects ways are);
           };

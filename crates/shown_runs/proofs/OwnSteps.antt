@@ -23,11 +23,12 @@ use Rattle.object_machines.specs.ObjectCalls.ObjectRequest.{AtChoices}
 use Rattle.object_machines.specs.OwnCalls.{later_choices, next_choice}
 use Rattle.object_machines.specs.OwnCalls.ChoiceState.{Choosing}
 use Rattle.object_machines.specs.OwnCalls.OwnState.{Draining, Posting}
-use Rattle.explored_calls.specs.LibraryCalls.{AreItsObjects, Given, Spot, chosen_way, library_of}
+use Rattle.explored_calls.specs.LibraryCalls.{AreItsObjects, Given, Spot, chosen_way}
 use Rattle.explored_calls.proofs.Lists.{at_one}
 use Rattle.explored_calls.proofs.Queued.{Queued, gone, has_notes_now}
 use Rattle.explored_calls.proofs.Queued.Halt.{Free}
-use Rattle.shown_runs.specs.ShownRuns.{arrived, spot_of}
+use Rattle.shown_runs.specs.ShownRuns.{spot_of}
+use Rattle.shown_runs.proofs.Plain.{arrived, plain_of}
 use Rattle.shown_runs.proofs.Acts.{Known, Leads, asks, drains, posts}
 use Rattle.shown_runs.proofs.CallSteps.{at_call, at_else, at_self, begins, in_library, known_idle}
 use Rattle.shown_runs.proofs.CallSteps.{leads_to}
@@ -47,12 +48,12 @@ chosen_leads line false = refl
 
 module _ (program : Program) (given : Spot → Given) (objects : Objects)
     (are : AreItsObjects program objects) (q : Queued) (most : ℕ) (ways : List Bool)
-    (at : Position (library_of program given objects))
+    (at : Position (plain_of program given objects))
     (quiet : Quiet program given objects q most ways at) (pid : ℕ) (low : pid < procs_of program)
     (line : Line) (line_is : slice_get program.lines (q.place pid) ≡ Some line)
     (none : q.waits pid ≡ Free) where
   -- where the process is then
-  idle_at : (next : Position (library_of program given objects)) (to : ℕ)
+  idle_at : (next : Position (plain_of program given objects)) (to : ℕ)
       → IsIdle program given objects next pid to
       → IsIdle program given objects next pid (at_one pid to q.place pid)
   idle_at next to idle =
@@ -63,7 +64,7 @@ module _ (program : Program) (given : Spot → Given) (objects : Objects)
   module _ (made : line.call ≡ call.Drain) where
     drained : Leads (such_calls program given objects) pid pid 0
         (record {
-          state = (library_of program given objects).machine.goes_on
+          state = (plain_of program given objects).machine.goes_on
               (In (spot_of pid (q.place pid)) (Alone Draining)) (Outcome.Took (q.notes pid));
           stage = phase.Idle;
           flags = record { wake = false; notes = no_notes };
@@ -120,11 +121,13 @@ module _ (program : Program) (given : Spot → Given) (objects : Objects)
 
   -- ---- it posts notes
 
-  module _ (other : ℕ) (set : NoteSet) (made : line.call ≡ call.Note other set)
+  module _ (other : ℕ) (set : NoteSet)
+      (begins_so : arrived program given objects pid (q.place pid)
+      ≡ In (spot_of pid (q.place pid)) (Alone (Posting (record { 0 = other }) set)))
       (low_other : other < procs_of program) where
     posted : Leads (such_calls program given objects) pid other 0
         (record {
-          state = (library_of program given objects).machine.goes_on
+          state = (plain_of program given objects).machine.goes_on
               (In (spot_of pid (q.place pid)) (Alone (Posting (record { 0 = other }) set)))
               Outcome.Went;
           stage = phase.Idle;
@@ -161,8 +164,7 @@ module _ (program : Program) (given : Spot → Given) (objects : Objects)
             (begins program given objects are q most ways at quiet pid low
             (In (spot_of pid (q.place pid)) (Alone (Posting (record { 0 = other }) set))) 0) at
         own =
-            known_idle program given objects are q most ways at quiet pid low none 0 _
-            (at_call program given objects pid (q.place pid) line _ line_is made)
+            known_idle program given objects are q most ways at quiet pid low none 0 _ begins_so
 
     -- So notes that are posted come to where the explorer has them.
     pub posts_notes : ComesQuiet program given objects are
@@ -217,14 +219,14 @@ module _ (program : Program) (given : Spot → Given) (objects : Objects)
 
     chosen : Leads (such_calls program given objects) pid pid 0
         (record {
-          state = (library_of program given objects).machine.goes_on
+          state = (plain_of program given objects).machine.goes_on
               (In (spot_of pid (q.place pid)) (Chooses Choosing))
-              (Outcome.Replied ((library_of program given objects).answer at.object AtChoices));
+              (Outcome.Replied ((plain_of program given objects).answer at.object AtChoices));
           stage = phase.Idle;
           flags = record { wake = false; notes = q.notes pid };
           word = posted_of at.world 0;
           level = level_of at.world 0;
-          object = (library_of program given objects).after at.object AtChoices;
+          object = (plain_of program given objects).after at.object AtChoices;
         }) at
     chosen =
         asks (such_calls program given objects) pid pid 0
@@ -254,7 +256,7 @@ module _ (program : Program) (given : Spot → Given) (objects : Objects)
                     ∙ ap later_choices choices_are;
                 idle = idle_at chosen.next (if way then line.next else line.other) (record {
                   state_is = chosen.known.now.state_is
-                      ∙ (ap (λ (l : List Bool). (library_of program given objects).machine.goes_on
+                      ∙ (ap (λ (l : List Bool). (plain_of program given objects).machine.goes_on
                       (In (spot_of pid (q.place pid)) (Chooses Choosing))
                       (Outcome.Replied (Chosen (next_choice l)))) choices_are
                       ∙ (leads_to program given objects pid (q.place pid) line (chosen_way way)

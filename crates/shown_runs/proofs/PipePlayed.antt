@@ -19,13 +19,14 @@ use Rattle.calls.specs.Position.{Position, after_of, begun, is_answered, is_read
 use Rattle.calls.specs.Program.{IsProgram, Program, is_stream_at, limit_at, procs_of}
 use Rattle.call_machines.specs.Schedules as runs
 use Rattle.object_machines.specs.ObjectCalls.{Objects}
-use Rattle.explored_calls.specs.LibraryCalls.{AreItsObjects, Given, HasEnd, Spot, library_of}
+use Rattle.explored_calls.specs.LibraryCalls.{AreItsObjects, Given, HasEnd, Spot}
 use Rattle.explored_calls.proofs.ExplorerPipes.{IsOutside, Makes, halted, makes_outside}
 use Rattle.explored_calls.proofs.Lists.{at_one}
 use Rattle.explored_calls.proofs.Queued.{Halt, Queued, Shows, has_notes_now, is_for}
 use Rattle.explored_calls.proofs.Queued.Amid.{Blocks, Wrote}
 use Rattle.explored_calls.proofs.Queued.Halt.{Free, Stays}
 use Rattle.shown_runs.specs.ShownRuns.{AreShownCalls, IsShownCall, spot_of, with_choices}
+use Rattle.shown_runs.proofs.Plain.{plain_of}
 use Rattle.shown_runs.proofs.CallSteps.{at_else, at_self}
 use Rattle.shown_runs.proofs.HangSteps.{hangs_up as hangs_there, turns_from_pipe}
 use Rattle.shown_runs.proofs.PipeShown as shown_at
@@ -111,7 +112,7 @@ module _ (program : Program) (given : Spot → Given) (objects : Objects)
       plays_by : (next : Queued)
           → ((most : ℕ) (ways : List Bool) (told : ℕ → Bool) → IsFresh program most
           → (choices : List Bool)
-          (position : runs.Position (library_of program given (with_choices objects choices)))
+          (position : runs.Position (plain_of program given (with_choices objects choices)))
           → Quiet program given (with_choices objects choices) (seen (at_one pid false told) q) most
           ways position
           → ComesQuiet program given (with_choices objects choices)
@@ -141,7 +142,7 @@ module _ (program : Program) (given : Spot → Given) (objects : Objects)
           (begun program at pid line line.call)
           → ((most : ℕ) (ways : List Bool) (told : ℕ → Bool) → IsFresh program most
           → (choices : List Bool)
-          (position : runs.Position (library_of program given (with_choices objects choices)))
+          (position : runs.Position (plain_of program given (with_choices objects choices)))
           → Quiet program given (with_choices objects choices) (seen told q) most ways position
           → (now : Queued)
           → MovesTo program given (with_choices objects choices)
@@ -391,7 +392,7 @@ module _ (program : Program) (given : Spot → Given) (objects : Objects)
     makes_again blocks answered well =
         pipe_calls (inr blocks) well
         (shown_at.again_after program q at shows pid line low line_is blocks) (λ waits. answered)
-        (by waits.is (shown (q.place pid) line line_is))
+        (by waits.is (shown.calls (q.place pid) line line_is))
       where
         waits : MadeWait program line.call
         waits = well.blocks pid line low line_is blocks

@@ -22,12 +22,13 @@ use Rattle.pipe_machines.specs.PipeRuns.{DirectionState}
 use Rattle.object_machines.specs.ObjectCalls.{ObjectCall, ObjectStates, Objects, opening_pipe}
 use Rattle.object_machines.specs.ObjectCalls.{pipe_at, sema_state}
 use Rattle.object_machines.specs.ObjectEnds.{AreApart, pipe_row}
-use Rattle.explored_calls.specs.LibraryCalls.{AreItsObjects, Given, Spot, library_of}
+use Rattle.explored_calls.specs.LibraryCalls.{AreItsObjects, Given, Spot}
 use Rattle.explored_calls.proofs.Lists.{at_one}
 use Rattle.explored_calls.proofs.PipePhases.{IsAwake, IsQuiet, PipesFit, pipe_in, put_in}
 use Rattle.explored_calls.proofs.Queued.{Amid, Halt, Queued}
 use Rattle.explored_calls.proofs.Queued.Halt.{For, Free, Stays as IsAmid}
 use Rattle.explored_calls.proofs.SpaceFacts.{AtMostOne}
+use Rattle.shown_runs.proofs.Plain.{plain_of}
 use Rattle.shown_runs.proofs.Acts.{IsSized, Reached}
 use Rattle.shown_runs.proofs.CallSteps.{at_else, at_self}
 use Rattle.shown_runs.proofs.Piped.{AreDue, IsOf, Piped, direction_at, keeps_two, of_no_member}
@@ -47,7 +48,7 @@ module _ (program : Program) (given : Spot → Given) (objects : Objects)
   -- ---- one that is amid a call of a pipe rests as one that waits for nothing
 
   -- what the world has of it is what it has of one that waits for nothing
-  pub rests_amid : (at : Position (library_of program given objects)) (pid : ℕ) (amid : Amid)
+  pub rests_amid : (at : Position (plain_of program given objects)) (pid : ℕ) (amid : Amid)
       (how : Stage) (set : NoteSet) (most : ℕ)
       → Rests program given objects at pid Free how set most
       → Rests program given objects at pid (IsAmid amid) how set most
@@ -61,7 +62,7 @@ module _ (program : Program) (given : Spot → Given) (objects : Objects)
       }
 
   -- and the other way round
-  pub rests_free : (at : Position (library_of program given objects)) (pid : ℕ) (amid : Amid)
+  pub rests_free : (at : Position (plain_of program given objects)) (pid : ℕ) (amid : Amid)
       (how : Stage) (set : NoteSet) (most : ℕ)
       → Rests program given objects at pid (IsAmid amid) how set most
       → Rests program given objects at pid Free how set most
@@ -77,7 +78,7 @@ module _ (program : Program) (given : Spot → Given) (objects : Objects)
   -- ---- acts at one direction
 
   -- acts of a process at one direction, which leave all others as they were
-  pub record PipeActs (at next : Position (library_of program given objects)) (pid pipe : ℕ)
+  pub record PipeActs (at next : Position (plain_of program given objects)) (pid pipe : ℕ)
       : Type 0 where
     -- some schedule comes to the next position
     pub reached : Reached (such_calls program given objects) next
@@ -85,8 +86,8 @@ module _ (program : Program) (given : Spot → Given) (objects : Objects)
     pub sized : IsSized (such_calls program given objects) next
     -- nobody else has gone on in its machine
     pub states : (other : ℕ) → other ≢ pid
-        → state_of (library_of program given objects) next other
-        ≡ state_of (library_of program given objects) at other
+        → state_of (plain_of program given objects) next other
+        ≡ state_of (plain_of program given objects) at other
     -- or in a sleep or a wakeup
     pub phases : (other : ℕ) → other ≢ pid → phase_of next.world other ≡ phase_of at.world other
     -- nobody else has other flags
@@ -126,7 +127,7 @@ module _ (program : Program) (given : Spot → Given) (objects : Objects)
   IsOutOfLine other = ⊤
 
   module _ (q : Queued) (most : ℕ) (ways : List Bool)
-      (at next : Position (library_of program given objects)) (pid pipe : ℕ)
+      (at next : Position (plain_of program given objects)) (pid pipe : ℕ)
       (low : pid < procs_of program) (quiet : Quiet program given objects q most ways at)
       (acts : PipeActs at next pid pipe) where
     sema_same : (sema : ℕ)
@@ -315,39 +316,39 @@ module _ (program : Program) (given : Spot → Given) (objects : Objects)
           let all = behind in
           absurd (omega arith)
 
-  module _ (at next : Position (library_of program given objects)) (pid pipe most : ℕ)
+  module _ (at next : Position (plain_of program given objects)) (pid pipe most : ℕ)
       (pipes dirs : List Direction) (there : pipe < length program.pipes)
       (piped : Piped program given objects pipes most at) (acts : PipeActs at next pid pipe)
       (state : ProgramState Spot ObjectCall)
-      (state_is : state_of (library_of program given objects) next pid ≡ state) where
+      (state_is : state_of (plain_of program given objects) next pid ≡ state) where
     -- where each process is then
     states_now : (other : ℕ)
-        → state_of (library_of program given objects) next other
-        ≡ at_one pid state (λ (n : ℕ). state_of (library_of program given objects) at n) other
+        → state_of (plain_of program given objects) next other
+        ≡ at_one pid state (λ (n : ℕ). state_of (plain_of program given objects) at n) other
     states_now other = by (same_or_not other pid)
       where
         by : (other ≡ pid) ⊎ (other ≢ pid)
-            → state_of (library_of program given objects) next other
-            ≡ at_one pid state (λ (n : ℕ). state_of (library_of program given objects) at n) other
+            → state_of (plain_of program given objects) next other
+            ≡ at_one pid state (λ (n : ℕ). state_of (plain_of program given objects) at n) other
         by (inl same) =
-            subst (λ (n : ℕ). state_of (library_of program given objects) next n
-            ≡ at_one pid state (λ (n : ℕ). state_of (library_of program given objects) at n) n)
+            subst (λ (n : ℕ). state_of (plain_of program given objects) next n
+            ≡ at_one pid state (λ (n : ℕ). state_of (plain_of program given objects) at n) n)
             (sym same) (state_is ∙ sym (at_self pid state
-            (λ (n : ℕ). state_of (library_of program given objects) at n)))
+            (λ (n : ℕ). state_of (plain_of program given objects) at n)))
         by (inr apart) =
             acts.states other apart ∙ sym (at_else pid other state
-            (λ (n : ℕ). state_of (library_of program given objects) at n) apart)
+            (λ (n : ℕ). state_of (plain_of program given objects) at n) apart)
 
     -- one direction has become this
     pub piped_after : (e : DirectionState) → next.object.pipes ≡ slice_set at.object.pipes pipe e
         → PipesFit objects program (slice_set at.object.pipes pipe e)
-        (at_one pid state (λ (n : ℕ). state_of (library_of program given objects) at n)) dirs
+        (at_one pid state (λ (n : ℕ). state_of (plain_of program given objects) at n)) dirs
         → AreDue program given objects next.world e pipe (suc most)
         → Piped program given objects dirs (suc most) next
     piped_after e pipes_are fit due =
         record {
           fits = subst (λ (ds : List DirectionState). PipesFit objects program ds
-              (λ (n : ℕ). state_of (library_of program given objects) next n) dirs) (sym pipes_are)
+              (λ (n : ℕ). state_of (plain_of program given objects) next n) dirs) (sym pipes_are)
               (fits_as _ dirs _ _ states_now fit);
           due = λ other low. due_by other low (same_or_not other pipe);
         }
@@ -396,7 +397,7 @@ module _ (program : Program) (given : Spot → Given) (objects : Objects)
     -- or none has, and no level
     pub piped_still : next.object.pipes ≡ at.object.pipes → dirs ≡ pipes
         → ((k : ℕ) → level_of next.world k ≡ level_of at.world k)
-        → IsQuiet objects (state_of (library_of program given objects) at pid)
+        → IsQuiet objects (state_of (plain_of program given objects) at pid)
         → IsQuiet objects state → Piped program given objects dirs (suc most) next
     piped_still pipes_are dirs_are levels before after =
         subst (λ (l : List Direction). Piped program given objects l (suc most) next) (sym dirs_are)
@@ -414,7 +415,7 @@ module _ (program : Program) (given : Spot → Given) (objects : Objects)
 
   -- such acts are at one direction
   pub acts_of : (pid pipe : ℕ) (row : WokenRow) (own : Own (such_calls program given objects))
-      (at : Position (library_of program given objects))
+      (at : Position (plain_of program given objects))
       (goes : Goes (such_calls program given objects) pid row own at) → IsRowOf pipe row
       → own.object.semas ≡ at.object.semas → own.object.space ≡ at.object.space
       → own.object.choices ≡ at.object.choices → PipeActs at goes.next pid pipe
@@ -438,7 +439,7 @@ module _ (program : Program) (given : Spot → Given) (objects : Objects)
 
   -- where no row is woken each level stays
   pub levels_stay : (pid : ℕ) (own : Own (such_calls program given objects))
-      (at : Position (library_of program given objects))
+      (at : Position (plain_of program given objects))
       (goes : Goes (such_calls program given objects) pid no_row own at)
       → (k : ℕ) → level_of goes.next.world k ≡ level_of at.world k
   levels_stay pid own at goes k = goes.levels k (inr (omega arith))

@@ -22,20 +22,21 @@ use Rattle.pipe_machines.specs.PipeRuns.{CallState, DirectionState, call_does}
 use Rattle.object_machines.specs.ObjectCalls.{ObjectCall, Objects, object_calls, pipe_at, sema_of}
 use Rattle.object_machines.specs.ObjectCalls.ObjectCall.{AtPipe}
 use Rattle.object_machines.specs.ObjectEnds.{AreApart, pipe_row, sema_row, space_row}
-use Rattle.explored_calls.specs.LibraryCalls.{AreItsObjects, Given, Spot, call_by, call_in}
-use Rattle.explored_calls.specs.LibraryCalls.{library_of, library_program, spot_in}
+use Rattle.explored_calls.specs.LibraryCalls.{AreItsObjects, Given, Spot}
+use Rattle.explored_calls.specs.LibraryCalls.{spot_in}
 use Rattle.explored_calls.proofs.PipePhases.{IsAwake, IsQuiet, PipeFits, PipesFit, pipe_in, put_by}
 use Rattle.explored_calls.proofs.PipePhases.{put_in}
-use Rattle.shown_runs.specs.ShownRuns.{arrived, rendez_at, spot_of}
+use Rattle.shown_runs.specs.ShownRuns.{rendez_at, spot_of}
+use Rattle.shown_runs.proofs.Plain.{arrived, plain_by, plain_in, plain_of, plain_program}
 
 module _ (program : Program) (given : Spot → Given) (objects : Objects) where
   -- where each process is in its machine
-  abbrev pub states_at : Position (library_of program given objects) → ℕ
+  abbrev pub states_at : Position (plain_of program given objects) → ℕ
       → ProgramState Spot ObjectCall
-  states_at at pid = state_of (library_of program given objects) at pid
+  states_at at pid = state_of (plain_of program given objects) at pid
 
   -- the direction with this number, as the position has it
-  abbrev pub direction_at : Position (library_of program given objects) → ℕ → DirectionState
+  abbrev pub direction_at : Position (plain_of program given objects) → ℕ → DirectionState
   direction_at at pipe = pipe_in objects at.object.pipes pipe
 
   -- one of the Rendez of a direction
@@ -62,10 +63,10 @@ module _ (program : Program) (given : Spot → Given) (objects : Objects) where
 
   -- all directions, as the lines have them
   pub record Piped (pipes : List Direction) (most : ℕ)
-      (at : Position (library_of program given objects)) : Type 0 where
+      (at : Position (plain_of program given objects)) : Type 0 where
     -- the explorer has them so
     pub fits : PipesFit objects program at.object.pipes
-        (λ (pid : ℕ). state_of (library_of program given objects) at pid) pipes
+        (λ (pid : ℕ). state_of (plain_of program given objects) at pid) pipes
     -- and the words of their Rendez are due
     pub due : (pipe : ℕ) → pipe < length program.pipes
         → AreDue at.world (direction_at at pipe) pipe most
@@ -73,7 +74,7 @@ module _ (program : Program) (given : Spot → Given) (objects : Objects) where
   -- ---- what keeps them
 
   -- acts that touch no direction
-  pub record KeepsPipes (at next : Position (library_of program given objects)) : Type 0 where
+  pub record KeepsPipes (at next : Position (plain_of program given objects)) : Type 0 where
     -- the directions are as they were
     pub pipes : next.object.pipes ≡ at.object.pipes
     -- who had put a write has put it, and nobody else has
@@ -101,7 +102,7 @@ module _ (program : Program) (given : Spot → Given) (objects : Objects) where
 
   -- then all is as it was
   pub piped_on : (pipes : List Direction) (most more : ℕ)
-      (at next : Position (library_of program given objects))
+      (at next : Position (plain_of program given objects))
       → Piped pipes most at → KeepsPipes at next → most ≤ more → Piped pipes more next
   piped_on pipes most more at next piped keeps grows =
       record {
@@ -109,7 +110,7 @@ module _ (program : Program) (given : Spot → Given) (objects : Objects) where
           many = ap length keeps.pipes ∙ piped.fits.many;
           each = λ pipe low. subst (λ (ds : List DirectionState). PipeFits objects program
               (pipe_in objects ds pipe)
-              (λ (pid : ℕ). state_of (library_of program given objects) next pid) pipes pipe)
+              (λ (pid : ℕ). state_of (plain_of program given objects) next pid) pipes pipe)
               (sym keeps.pipes) (each pipe low);
           awake = λ pid less. keeps.awake pid less (piped.fits.awake pid less);
         };
@@ -119,7 +120,7 @@ module _ (program : Program) (given : Spot → Given) (objects : Objects) where
     where
       each : (pipe : ℕ) → pipe < length program.pipes
           → PipeFits objects program (direction_at at pipe)
-          (λ (pid : ℕ). state_of (library_of program given objects) next pid) pipes pipe
+          (λ (pid : ℕ). state_of (plain_of program given objects) next pid) pipes pipe
       each pipe low =
           let one = piped.fits.each pipe low in
           record {
@@ -155,7 +156,7 @@ module _ (program : Program) (given : Spot → Given) (objects : Objects) where
 
   -- Two processes act, or one, at no Rendez of a direction: before and after it they have put
   -- nothing.
-  pub keeps_two : (at next : Position (library_of program given objects)) (one two : ℕ)
+  pub keeps_two : (at next : Position (plain_of program given objects)) (one two : ℕ)
       → ((pid : ℕ) → pid ≢ one → pid ≢ two → states_at next pid ≡ states_at at pid)
       → ((pipe k : ℕ) → IsOf pipe k → posted_of next.world k ≡ posted_of at.world k)
       → ((pipe k : ℕ) → IsOf pipe k → level_of next.world k ≡ level_of at.world k)
@@ -194,7 +195,7 @@ module _ (program : Program) (given : Spot → Given) (objects : Objects) where
           subst (IsAwake objects) (sym (states pid far other)) was
 
   -- the same of one, at another Rendez
-  pub keeps_one : (at next : Position (library_of program given objects)) (one r : ℕ)
+  pub keeps_one : (at next : Position (plain_of program given objects)) (one r : ℕ)
       → ((pid : ℕ) → pid ≢ one → states_at next pid ≡ states_at at pid)
       → ((k : ℕ) → k ≢ r → posted_of next.world k ≡ posted_of at.world k)
       → ((k : ℕ) → k ≢ r → level_of next.world k ≡ level_of at.world k)
@@ -275,7 +276,7 @@ module _ (program : Program) (given : Spot → Given) (objects : Objects) where
 
   -- about to make a call
   call_quiet : (pid : ℕ) (spot : Spot) (has : Given) (made : Call)
-      → IsQuiet objects (In spot (call_by pid has made))
+      → IsQuiet objects (In spot (plain_by pid has made))
   call_quiet pid spot has (call.Acquire sema deadline) = record { puts = λ pipe. refl; awake = tt }
   call_quiet pid spot has (call.Try sema) = record { puts = λ pipe. refl; awake = tt }
   call_quiet pid spot has (call.Release sema count) = record { puts = λ pipe. refl; awake = tt }
@@ -306,11 +307,11 @@ module _ (program : Program) (given : Spot → Given) (objects : Objects) where
           → IsQuiet objects (arrived program given objects pid place)
       by None is =
           subst (λ (one : Option Line). IsQuiet objects (machines.at_place (object_calls objects)
-          (library_program program given) (spot_in pid place one))) (sym is)
+          (plain_program program given) (spot_in pid place one))) (sym is)
           (record { puts = λ pipe. refl; awake = tt })
       by (Some line) is =
           subst (λ (one : Option Line). IsQuiet objects (machines.at_place (object_calls objects)
-          (library_program program given) (spot_in pid place one))) (sym is)
+          (plain_program program given) (spot_in pid place one))) (sym is)
           (subst (λ (one : Option Line). IsQuiet objects (In (spot_of pid place)
-          (call_in pid (given (spot_of pid place)) one))) (sym is)
+          (plain_in pid (given (spot_of pid place)) one))) (sym is)
           (call_quiet pid (spot_of pid place) (given (spot_of pid place)) line.call))

@@ -1,8 +1,9 @@
 -- Each schedule of the explorer's machine is played by the library's calls, step by step.
 use Rattle.std.proofs.Common.{Option, [], ℕ, ◌+◌, ◌<◌, ◌≡◌, ◌⊎◌, inl, inr, suc}
 use Rattle.std.proofs.Common.{Bool, true, false, not, ◌&&◌, ◌-◌, Some, None, List}
+use Rattle.std.proofs.Common.{◌==◌, if◌then◌else◌}
 use Rattle.std.proofs.Common.{◌∷◌, length, nat_lt, refl, sym, ap, ◌∙◌, subst, arith}
-use Rattle.std.specs.Prelude.{slice_set}
+use Rattle.std.specs.Prelude.{is_none, slice_set}
 use Rattle.std.proofs.lemmas.Bool.Decides.{nat_tests}
 use Rattle.sync_base.specs.declared.limits.TheConstants.{ATOMIC_SIZE}
 use Rattle.sync_base.specs.declared.note.NoteSet.{NoteSet}
@@ -23,15 +24,17 @@ use Rattle.calls.specs.Lines.{after_ending}
 use Rattle.calls.specs.Machine.{system_of}
 use Rattle.calls.specs.Position.{Position, after_of, begun}
 use Rattle.calls.specs.Program.{IsProgram, Program, procs_of, sizes_of}
+use Rattle.calls.specs.Timers.{is_early}
 use Rattle.call_machines.specs.Schedules as runs
 use Rattle.object_machines.specs.ObjectCalls.{Objects}
-use Rattle.explored_calls.specs.LibraryCalls.{AreItsObjects, Given, Spot, library_of}
+use Rattle.explored_calls.specs.LibraryCalls.{AreItsObjects, Given, Spot, TicksSo}
 use Rattle.explored_calls.proofs.ExplorerSteps.{calls_to, meets_to}
 use Rattle.explored_calls.proofs.ExplorerSteps.{IsAtCall, acquires_to, begins_after}
 use Rattle.explored_calls.proofs.ExplorerSteps.{chooses_after, chooses_to, drains_to, fails_to}
 use Rattle.explored_calls.proofs.ExplorerSteps.{gone_with, posts_to, refuses_to, releases_to}
 use Rattle.explored_calls.proofs.ExplorerSteps.{tries_to, units_of, waits_after, waits_to}
-use Rattle.explored_calls.proofs.ExplorerSteps.{with_units}
+use Rattle.explored_calls.proofs.ExplorerSteps.{none_due, ticks_to, with_units}
+use Rattle.explored_calls.proofs.Running.{joined_none}
 use Rattle.explored_calls.proofs.Lists.{at_one}
 use Rattle.explored_calls.proofs.Queued.{Halt, Queued, Shows, gives_up, gone, has_notes_now, joins}
 use Rattle.explored_calls.proofs.Queued.{serves, with_values}
@@ -39,7 +42,8 @@ use Rattle.explored_calls.proofs.QueuedSteps.{shows_gone, shows_left}
 use Rattle.explored_calls.proofs.Queued.Amid.{Blocks}
 use Rattle.explored_calls.proofs.Queued.Halt.{For, Free, Stays}
 use Rattle.shown_runs.specs.ShownRuns.{AreShownCalls, IsShownCall, with_choices}
-use Rattle.shown_runs.proofs.CallSteps.{joins_line, line_can, turns_away}
+use Rattle.shown_runs.proofs.Plain.{plain_of}
+use Rattle.shown_runs.proofs.CallSteps.{at_call, joins_line, line_can, turns_away}
 use Rattle.shown_runs.proofs.Following.{Chooses, Turns, Which, which}
 use Rattle.shown_runs.proofs.Following.Which.{IsAgain, IsChoice, IsEnd, IsFailure, IsFirst, IsStood}
 use Rattle.shown_runs.proofs.Following.Which.{IsTurn}
@@ -118,7 +122,7 @@ module _ (program : Program) (given : Spot → Given) (objects : Objects)
         → ((told : ℕ → Bool) → SayTheSame (library told) (seen told next))
         → ((most : ℕ) (ways : List Bool) (told : ℕ → Bool) → IsFresh program most
         → (choices : List Bool)
-        (position : runs.Position (library_of program given (with_choices objects choices)))
+        (position : runs.Position (plain_of program given (with_choices objects choices)))
         → Quiet program given (with_choices objects choices) (seen told q) most ways position
         → ComesQuiet program given (with_choices objects choices)
         (are_with program objects choices are) (library told) (suc most) ways)
@@ -232,12 +236,66 @@ module _ (program : Program) (given : Spot → Given) (objects : Objects)
         (λ most ways told fresh choices position quiet.
         posts_notes program given (with_choices objects choices)
         (are_with program objects choices are) (seen told q) most ways position quiet pid is_at.low
-        line is_at.line_is (free told) other set made low_other))
+        line is_at.line_is (free told) other set
+        (at_call program given (with_choices objects choices) pid (q.place pid) line
+        (call.Note other set) is_at.line_is made) low_other))
       where
         low_other : other < procs_of program
         low_other =
             let is : nat_lt other (procs_of program) ≡ true = named (call.Note other set) made in
             grind (arith, nat_tests)
+
+    -- one that ticks once finds no timer
+    ticks_so : (now : ℕ) → line.call ≡ call.Tick now → Steps
+    ticks_so now made =
+        begins_so (gone q pid line.next)
+        (ticks_to program q at shows pid line is_at now made) (follows_line ending.Done)
+        (plays_by _
+        (λ told. gone (has_notes_now (seen told q) pid (joined (q.notes pid) no_notes)) pid
+        line.next)
+        same
+        (λ most ways told fresh choices position quiet.
+        posts_notes program given (with_choices objects choices)
+        (are_with program objects choices are) (seen told q) most ways position quiet pid is_at.low
+        line is_at.line_is (free told) pid no_notes
+        (at_call program given (with_choices objects choices) pid (q.place pid) line
+        (call.Tick now) is_at.line_is made) is_at.low))
+      where
+        same_notes : (other : ℕ) (test : Bool) → (other == pid) ≡ test
+            → q.notes other ≡ (if test then joined (q.notes pid) no_notes else q.notes other)
+        same_notes other true is =
+            let one : other ≡ pid = grind (arith, nat_tests) in
+            ap q.notes one ∙ sym (joined_none (q.notes pid))
+        same_notes other false is = refl
+
+        same : (told : ℕ → Bool) → SayTheSame
+            (gone (has_notes_now (seen told q) pid (joined (q.notes pid) no_notes)) pid line.next)
+            (seen told (gone q pid line.next))
+        same told =
+            record {
+              each = λ other. record {
+                place = refl;
+                waits = ((seen_gone told q pid line.next).each other).waits;
+                notes = same_notes other (other == pid) refl;
+              };
+              values = refl;
+              lines = λ what. refl;
+              pipes = refl;
+            }
+
+    -- one that ticks for ever rests by itself
+    ticks_never : (now : ℕ) → line.call ≡ call.Ticks now
+        → (line.is_served && is_early at.processes line.call) ≡ false → ⊥
+    ticks_never now made not_early =
+        let so = subst (TicksSo (q.place pid) line) made
+        (shown.ticks (q.place pid) line is_at.line_is) in
+        let served = so.1 in
+        let early : is_early at.processes line.call ≡ true =
+        ap (is_early at.processes) made
+        ∙ ap (λ due. is_none due)
+        (none_due now (procs_of program) q at.processes shows.processes) in
+        let both : true ≡ false = sym (rw (served, early) refl) ∙ not_early in
+        cc
 
     drains_so : line.call ≡ call.Drain → Steps
     drains_so made =
@@ -272,7 +330,7 @@ module _ (program : Program) (given : Spot → Given) (objects : Objects)
       where
         by_waiter : (some : nat_lt 0 (length (q.line (want.Partner tag))) ≡ true)
             (choices : List Bool) (most : ℕ) (ways : List Bool) (told : ℕ → Bool)
-            (position : runs.Position (library_of program given (with_choices objects choices)))
+            (position : runs.Position (plain_of program given (with_choices objects choices)))
             → Quiet program given (with_choices objects choices) (seen told q) most ways position
             → (found : Option ℕ) → waiter_of position.object.space tag ≡ found
             → ComesQuiet program given (with_choices objects choices)
@@ -327,8 +385,9 @@ module _ (program : Program) (given : Spot → Given) (objects : Objects)
         (λ blocks. absurd (let both : Free ≡ Stays Blocks = sym is_at.waits ∙ blocks in cc)) of
 
     -- So each call is made, but one that is never to be made.
-    pub begins : IsWell program q → Steps ⊎ Reaches
-    begins well = by line.call refl (shown (q.place pid) line is_at.line_is)
+    pub begins : IsWell program q
+        → (line.is_served && is_early at.processes line.call) ≡ false → Steps ⊎ Reaches
+    begins well not_early = by line.call refl (shown.calls (q.place pid) line is_at.line_is)
       where
         pipe_there : (made : Call) (pipe : ℕ) (rest : Bool)
             → can_call (sizes_of program) made ≡ nat_lt pipe (length program.pipes) && rest
@@ -364,6 +423,8 @@ module _ (program : Program) (given : Spot → Given) (objects : Objects)
             (let low : nat_lt pipe (length program.pipes) ≡ true = named (call.Hangup pipe) is in
             grind (arith, nat_tests))))
         by call.Drain is allowed = inl (drains_so is)
+        by (call.Tick now) is allowed = inl (ticks_so now is)
+        by (call.Ticks now) is allowed = absurd (ticks_never now is not_early)
         by call.Choose is allowed = inl (chooses_so is)
         by call.Never is allowed =
             inr (record {
@@ -398,7 +459,7 @@ module _ (program : Program) (given : Spot → Given) (objects : Objects)
         }
       where
         by_want : (choices : List Bool) (most : ℕ) (ways : List Bool) (told : ℕ → Bool)
-            (position : runs.Position (library_of program given (with_choices objects choices)))
+            (position : runs.Position (plain_of program given (with_choices objects choices)))
             → Quiet program given (with_choices objects choices) (seen told q) most ways position
             → (what : Want) → q.waits turns.pid ≡ For what
             → ComesQuiet program given (with_choices objects choices)
@@ -477,7 +538,8 @@ module _ (program : Program) (given : Spot → Given) (objects : Objects)
 
         by : Which program q at shows mover → Stepped
         by (IsFirst one) =
-            begun_so one.line one.is_at (begins q at shows mover one.line one.is_at well)
+            begun_so one.line one.is_at
+            (begins q at shows mover one.line one.is_at well one.not_early)
         by (IsAgain one) =
             inl (makes_again program given objects are is_program shown q at shows mover one.line
             one.low one.line_is one.waits one.answered well)

@@ -5,9 +5,10 @@ use Rattle.calls.specs.Position.{Position}
 use Rattle.calls.specs.Program.{IsProgram, Program, procs_of}
 use Rattle.call_machines.specs.Schedules as runs
 use Rattle.object_machines.specs.ObjectCalls.{Objects}
-use Rattle.explored_calls.specs.LibraryCalls.{AreItsObjects, Given, Spot, library_of}
+use Rattle.explored_calls.specs.LibraryCalls.{AreItsObjects, Given, Spot}
 use Rattle.explored_calls.proofs.Queued.{Queued, Shows}
 use Rattle.shown_runs.specs.ShownRuns.{AreShownCalls, with_choices}
+use Rattle.shown_runs.proofs.Plain.{plain_of}
 use Rattle.shown_runs.proofs.Quiet.{Quiet}
 use Rattle.shown_runs.proofs.QuietSteps.{ComesQuiet}
 use Rattle.shown_runs.proofs.Seen.{SayTheSame, quiet_as, seen}
@@ -48,7 +49,7 @@ module _ (program : Program) (given : Spot → Given) (objects : Objects)
     -- all that is chosen, from the opening on
     pub choices : List Bool
     -- the position of the library's calls
-    pub at : runs.Position (library_of program given (with_choices objects choices))
+    pub at : runs.Position (plain_of program given (with_choices objects choices))
     -- it is quiet, as the lines say
     pub quiet : Quiet program given (with_choices objects choices) (seen told q) most ways at
 
@@ -71,7 +72,7 @@ module _ (program : Program) (given : Spot → Given) (objects : Objects)
       → SayTheSame library (seen told next)
       → ((earlier : List Bool) (before : ℕ → Bool) → PlaysTo q most earlier before)
       → ((choices : List Bool) (at : runs.Position
-      (library_of program given (with_choices objects choices)))
+      (plain_of program given (with_choices objects choices)))
       → Quiet program given (with_choices objects choices) (seen told q) most ways at
       → ComesQuiet program given (with_choices objects choices)
       (are_with program objects choices are) library (suc most) ways)
@@ -92,7 +93,7 @@ module _ (program : Program) (given : Spot → Given) (objects : Objects)
       (told : ℕ → Bool) → SayTheSame library (seen told next)
       → ((earlier : List Bool) (before : ℕ → Bool) → PlaysTo q most earlier before)
       → ((choices : List Bool) (at : runs.Position
-      (library_of program given (with_choices objects choices)))
+      (plain_of program given (with_choices objects choices)))
       → Quiet program given (with_choices objects choices) (seen told q) most (way ∷ ways) at
       → ComesQuiet program given (with_choices objects choices)
       (are_with program objects choices are) library (suc most) ways)
@@ -112,7 +113,7 @@ module _ (program : Program) (given : Spot → Given) (objects : Objects)
   pub pipe_choices : (q next : Queued) (most : ℕ) (ways : List Bool) (told was : ℕ → Bool)
       → ((earlier : List Bool) (before : ℕ → Bool) → PlaysTo q most earlier before)
       → ((choices : List Bool) (at : runs.Position
-      (library_of program given (with_choices objects choices)))
+      (plain_of program given (with_choices objects choices)))
       → Quiet program given (with_choices objects choices) (seen was q) most ways at
       → ComesQuiet program given (with_choices objects choices)
       (are_with program objects choices are) (seen told next) (suc most) ways)

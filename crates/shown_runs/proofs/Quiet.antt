@@ -40,13 +40,14 @@ use Rattle.object_machines.specs.ObjectCalls.{Objects, pipe_at, sema_of, sema_st
 use Rattle.space_machines.specs.MeetMachine.MeetState.{Calls}
 use Rattle.object_machines.specs.ObjectCalls.ObjectCall.{AtPipe, AtSema, InSpace}
 use Rattle.object_machines.specs.ObjectEnds.{AreApart, LeavesUnworn, sema_row, space_row}
-use Rattle.explored_calls.specs.LibraryCalls.{AreItsObjects, Given, Spot, library_of}
+use Rattle.explored_calls.specs.LibraryCalls.{AreItsObjects, Given, Spot}
 use Rattle.explored_calls.proofs.PipePhases.{IsQuiet}
 use Rattle.explored_calls.proofs.Queued.{Halt, Queued, is_for}
 use Rattle.explored_calls.proofs.Queued.Amid.{Blocks, ReadsOn, Wrote}
 use Rattle.explored_calls.proofs.Queued.Halt.{For, Free, Stays as IsAmid}
 use Rattle.explored_calls.proofs.SpaceFacts.{AtMostOne}
-use Rattle.shown_runs.specs.ShownRuns.{arrived, offered_at, rendez_at, spot_of}
+use Rattle.shown_runs.specs.ShownRuns.{offered_at, rendez_at, spot_of}
+use Rattle.shown_runs.proofs.Plain.{arrived, plain_of}
 use Rattle.shown_runs.proofs.Acts.{IsSized, Reached, Stays, SuchSystem}
 use Rattle.shown_runs.proofs.Piped.{Piped, arrived_quiet, at_pipe_quiet}
 
@@ -59,7 +60,7 @@ line_of (Some member) = member ∷ []
 abbrev pub such_calls : Program → (Spot → Given) → Objects
     → SuchSystem (ProgramState Spot ObjectCall) ObjectRequest ObjectReply Unit ObjectStates
 such_calls program given objects =
-    record { system = library_of program given objects; comes = LeavesUnworn }
+    record { system = plain_of program given objects; comes = LeavesUnworn }
 
 -- a process that has put no write which does not stand
 abbrev pub IsNoWrite : Halt → Type 0
@@ -68,7 +69,7 @@ IsNoWrite other = ⊤
 
 module _ (program : Program) (given : Spot → Given) (objects : Objects) where
   -- the semaphore with this number, as the position has it
-  abbrev pub sema_at : Position (library_of program given objects) → ℕ → SemaState
+  abbrev pub sema_at : Position (plain_of program given objects) → ℕ → SemaState
   sema_at at sema = sema_state objects at.object sema
 
   -- the Rendez in which a process waits for a semaphore
@@ -80,7 +81,7 @@ module _ (program : Program) (given : Spot → Given) (objects : Objects) where
   meeting pid = (rendez_of_member objects.space pid).0
 
   -- what the space keeps of a process, as the position has it
-  abbrev pub place_at : Position (library_of program given objects) → ℕ → Place
+  abbrev pub place_at : Position (plain_of program given objects) → ℕ → Place
   place_at at pid = place_of at.object.space pid
 
   -- ---- one process
@@ -93,7 +94,7 @@ module _ (program : Program) (given : Spot → Given) (objects : Objects) where
   is_meeting (IsAmid amid) = false
 
   -- what the world and the space have of a process that waits for a partner, or does not
-  pub record Placed (at : Position (library_of program given objects)) (pid : ℕ) (meets : Bool)
+  pub record Placed (at : Position (plain_of program given objects)) (pid : ℕ) (meets : Bool)
       (most : ℕ) : Type 0 where
     -- it is posted there if it waits for a partner
     pub posted : posted_of at.world (meeting pid) ≡ (if meets then posted_as pid else nobody)
@@ -106,7 +107,7 @@ module _ (program : Program) (given : Spot → Given) (objects : Objects) where
 
   -- what the world and the semaphores have of a process that waits for this, and stands so at its
   -- semaphore
-  pub record Rests (at : Position (library_of program given objects)) (pid : ℕ)
+  pub record Rests (at : Position (plain_of program given objects)) (pid : ℕ)
       (waits : Halt) (how : Stage) (set : NoteSet) (most : ℕ) : Type 0 where
     -- it has no mark, and these notes
     pub flags_is : flags_of at.world pid ≡ record { wake = false; notes = set }
@@ -125,16 +126,16 @@ module _ (program : Program) (given : Spot → Given) (objects : Objects) where
         → grants_of (sema_at at sema) pid ≤ most
 
   -- it has gone on to a place, and has not made the call there
-  pub record IsIdle (at : Position (library_of program given objects)) (pid place : ℕ) : Type 0
+  pub record IsIdle (at : Position (plain_of program given objects)) (pid place : ℕ) : Type 0
     where
       -- it is about to make the call of the place
-      pub state_is : state_of (library_of program given objects) at pid
+      pub state_is : state_of (plain_of program given objects) at pid
           ≡ arrived program given objects pid place
       -- it is in no sleep and no wakeup
       pub phase_is : phase_of at.world pid ≡ phase.Idle
 
   -- or sleeps there, with the number of its grants
-  pub record IsAsleep (at : Position (library_of program given objects)) (pid place sema : ℕ)
+  pub record IsAsleep (at : Position (plain_of program given objects)) (pid place sema : ℕ)
       : Type 0 where
     -- the line of the place where it waits
     pub line : Line
@@ -145,14 +146,14 @@ module _ (program : Program) (given : Spot → Given) (objects : Objects) where
     -- that semaphore is one of the program's
     pub low : sema < length program.values
     -- its machine waits with the number of its grants
-    pub state_is : state_of (library_of program given objects) at pid
+    pub state_is : state_of (plain_of program given objects) at pid
         ≡ In (spot_of pid place) (AtSema sema (Takes pid (Waits (grants_of (sema_at at sema) pid))))
     -- it is asleep in the Rendez of its seat
     pub phase_is : phase_of at.world pid
         ≡ phase.Asleep (rendez_at objects sema pid) (grants_of (sema_at at sema) pid)
 
   -- or there, with the number of its meetings
-  pub record IsMeeting (at : Position (library_of program given objects)) (pid place tag : ℕ)
+  pub record IsMeeting (at : Position (plain_of program given objects)) (pid place tag : ℕ)
       : Type 0 where
     -- the line of the place where it waits
     pub line : Line
@@ -161,7 +162,7 @@ module _ (program : Program) (given : Spot → Given) (objects : Objects) where
     -- its call is a rendezvous without a deadline
     pub made : line.call ≡ call.Rendezvous tag None
     -- its machine waits with the number of its meetings
-    pub state_is : state_of (library_of program given objects) at pid
+    pub state_is : state_of (plain_of program given objects) at pid
         ≡ In (spot_of pid place) (InSpace (record {
           member = pid;
           offered = offered_at given pid place tag;
@@ -191,7 +192,7 @@ module _ (program : Program) (given : Spot → Given) (objects : Objects) where
         → WasTold spot line pipe number rendez_is at
 
   -- it was told to wait at a direction, and is about to sleep
-  pub record IsTold (at : Position (library_of program given objects)) (pid place : ℕ) : Type 0
+  pub record IsTold (at : Position (plain_of program given objects)) (pid place : ℕ) : Type 0
     where
       -- the line of the place where it is
       pub line : Line
@@ -212,13 +213,13 @@ module _ (program : Program) (given : Spot → Given) (objects : Objects) where
       -- its call is a read or a write that was told so
       pub told : WasTold (spot_of pid place) line pipe number rendez_is made
       -- its machine is there
-      pub state_is : state_of (library_of program given objects) at pid
+      pub state_is : state_of (plain_of program given objects) at pid
           ≡ In (spot_of pid place) (AtPipe pipe made)
       -- it is in no sleep and no wakeup
       pub phase_is : phase_of at.world pid ≡ phase.Idle
 
   -- or it has put a write, which is to stand
-  pub record HasPutAt (at : Position (library_of program given objects)) (pid place : ℕ) : Type 0
+  pub record HasPutAt (at : Position (plain_of program given objects)) (pid place : ℕ) : Type 0
     where
       -- the line of the place where it is
       pub line : Line
@@ -235,14 +236,14 @@ module _ (program : Program) (given : Spot → Given) (objects : Objects) where
       -- its call is a write without a deadline
       pub made : line.call ≡ call.Write pipe bytes None
       -- its machine is there
-      pub state_is : state_of (library_of program given objects) at pid
+      pub state_is : state_of (plain_of program given objects) at pid
           ≡ In (spot_of pid place) (AtPipe pipe (Writes (given (spot_of pid place)).writer
           (replicate bytes 0) (TryState.Tries (PutState.Standing number))))
       -- it is in no sleep and no wakeup
       pub phase_is : phase_of at.world pid ≡ phase.Idle
 
   -- By what it waits for: nothing, a unit, or a partner; or it is amid a call of a pipe.
-  abbrev pub StandsBy : Position (library_of program given objects) → ℕ → ℕ → Halt → Type 0
+  abbrev pub StandsBy : Position (plain_of program given objects) → ℕ → ℕ → Halt → Type 0
   StandsBy at pid place Free = IsIdle at pid place
   StandsBy at pid place (For (want.Unit sema)) = IsAsleep at pid place sema
   StandsBy at pid place (For (want.Partner tag)) = IsMeeting at pid place tag
@@ -251,9 +252,9 @@ module _ (program : Program) (given : Spot → Given) (objects : Objects) where
   StandsBy at pid place (IsAmid (ReadsOn room)) = ⊥
 
   -- one that has put no write
-  pub quiet_by : (at : Position (library_of program given objects)) (pid place : ℕ) (waits : Halt)
+  pub quiet_by : (at : Position (plain_of program given objects)) (pid place : ℕ) (waits : Halt)
       → IsNoWrite waits → StandsBy at pid place waits
-      → IsQuiet objects (state_of (library_of program given objects) at pid)
+      → IsQuiet objects (state_of (plain_of program given objects) at pid)
   quiet_by at pid place Free no_write idle =
       subst (IsQuiet objects) (sym idle.state_is) (arrived_quiet program given objects pid place)
   quiet_by at pid place (For (want.Unit sema)) no_write asleep =
@@ -278,7 +279,7 @@ module _ (program : Program) (given : Spot → Given) (objects : Objects) where
   quiet_by at pid place (IsAmid (ReadsOn room)) no_write none = absurd none
 
   -- how a process stands, by its place, its wait and its notes
-  pub record Stands (at : Position (library_of program given objects)) (pid place : ℕ)
+  pub record Stands (at : Position (plain_of program given objects)) (pid place : ℕ)
       (waits : Halt) (set : NoteSet) (most : ℕ) : Type 0 where
     -- it stands by what it waits for
     pub stands : StandsBy at pid place waits
@@ -307,7 +308,7 @@ module _ (program : Program) (given : Spot → Given) (objects : Objects) where
   -- Each process stands as the explorer has it, with no more grants than this; nobody is to be
   -- named; and these are the choices to come.
   pub record Quiet (q : Queued) (most : ℕ) (ways : List Bool)
-      (at : Position (library_of program given objects)) : Type 0 where
+      (at : Position (plain_of program given objects)) : Type 0 where
     -- some schedule of the library comes here
     pub reached : Reached (such_calls program given objects) at
     -- it has a place for each process and each Rendez
@@ -336,7 +337,7 @@ module _ (program : Program) (given : Spot → Given) (objects : Objects) where
   -- ---- what stays
 
   -- what a process has at a semaphore
-  pub record Frame (at next : Position (library_of program given objects)) (pid sema : ℕ)
+  pub record Frame (at next : Position (plain_of program given objects)) (pid sema : ℕ)
       : Type 0 where
     -- the same process is posted there
     pub posted : posted_of next.world (rendez sema pid) ≡ posted_of at.world (rendez sema pid)
@@ -348,7 +349,7 @@ module _ (program : Program) (given : Spot → Given) (objects : Objects) where
     pub grants : grants_of (sema_at next sema) pid ≡ grants_of (sema_at at sema) pid
 
   -- what stays twice stays after both
-  pub frame_more : (at mid next : Position (library_of program given objects)) (pid sema : ℕ)
+  pub frame_more : (at mid next : Position (plain_of program given objects)) (pid sema : ℕ)
       → Frame at mid pid sema → Frame mid next pid sema → Frame at next pid sema
   frame_more at mid next pid sema one two =
       record {
@@ -359,7 +360,7 @@ module _ (program : Program) (given : Spot → Given) (objects : Objects) where
       }
 
   -- what a process has in the space
-  pub record SpaceFrame (at next : Position (library_of program given objects)) (pid : ℕ) : Type 0
+  pub record SpaceFrame (at next : Position (plain_of program given objects)) (pid : ℕ) : Type 0
     where
       -- the same process is posted there
       pub posted : posted_of next.world (meeting pid) ≡ posted_of at.world (meeting pid)
@@ -369,7 +370,7 @@ module _ (program : Program) (given : Spot → Given) (objects : Objects) where
       pub place : place_at next pid ≡ place_at at pid
 
   -- then it is placed as before
-  pub placed_still : (at next : Position (library_of program given objects)) (pid : ℕ)
+  pub placed_still : (at next : Position (plain_of program given objects)) (pid : ℕ)
       (meets : Bool) (most more : ℕ) → Placed at pid meets most → SpaceFrame at next pid
       → most ≤ more → Placed next pid meets more
   placed_still at next pid meets most more placed frame grows =
@@ -388,7 +389,7 @@ module _ (program : Program) (given : Spot → Given) (objects : Objects) where
       }
 
   -- where no word changes, and the space does not
-  pub space_words : (at next : Position (library_of program given objects)) (pid : ℕ)
+  pub space_words : (at next : Position (plain_of program given objects)) (pid : ℕ)
       → ((k : ℕ) → posted_of next.world k ≡ posted_of at.world k)
       → ((k : ℕ) → level_of next.world k ≡ level_of at.world k)
       → next.object.space ≡ at.object.space → SpaceFrame at next pid
@@ -400,7 +401,7 @@ module _ (program : Program) (given : Spot → Given) (objects : Objects) where
       }
 
   -- one semaphore has become this, and the others stay
-  pub record Changed (at next : Position (library_of program given objects)) (sema : ℕ)
+  pub record Changed (at next : Position (plain_of program given objects)) (sema : ℕ)
       (t : SemaState) : Type 0 where
     -- there are as many semaphores as before
     pub many : length next.object.semas ≡ length at.object.semas
@@ -423,7 +424,7 @@ module _ (program : Program) (given : Spot → Given) (objects : Objects) where
     pub grants : grants_of t pid ≡ grants_of s pid
 
   -- where no object changes no semaphore does
-  pub unchanged : (at next : Position (library_of program given objects)) (sema : ℕ)
+  pub unchanged : (at next : Position (plain_of program given objects)) (sema : ℕ)
       → next.object ≡ at.object → Changed at next sema (sema_at at sema)
   unchanged at next sema same =
       record {
@@ -438,7 +439,7 @@ module _ (program : Program) (given : Spot → Given) (objects : Objects) where
   -- ---- a process of which little changes
 
   -- a process of which only notes change rests as it did
-  pub rests_still : (at next : Position (library_of program given objects)) (pid : ℕ)
+  pub rests_still : (at next : Position (plain_of program given objects)) (pid : ℕ)
       (waits : Halt) (how : Stage) (set held : NoteSet) (most more : ℕ)
       → Rests at pid waits how set most
       → ((sema : ℕ) → sema < length program.values → Frame at next pid sema)
@@ -462,7 +463,7 @@ module _ (program : Program) (given : Spot → Given) (objects : Objects) where
       }
 
   -- at one semaphore it is this now
-  pub record Own (next : Position (library_of program given objects)) (pid sema : ℕ)
+  pub record Own (next : Position (plain_of program given objects)) (pid sema : ℕ)
       (waits : Halt) (how : Stage) (most : ℕ) : Type 0 where
     -- it is posted there if it waits there
     pub posted : posted_of next.world (rendez sema pid)
@@ -476,7 +477,7 @@ module _ (program : Program) (given : Spot → Given) (objects : Objects) where
     pub few : grants_of (sema_at next sema) pid ≤ most
 
   -- a process that changes at one semaphore alone rests as it should
-  pub rests_own : (at next : Position (library_of program given objects)) (pid sema : ℕ)
+  pub rests_own : (at next : Position (plain_of program given objects)) (pid sema : ℕ)
       (waits now : Halt) (before how : Stage) (set held : NoteSet) (most more : ℕ)
       → Rests at pid waits before set most
       → ((other : ℕ) → other < length program.values → other ≢ sema → Frame at next pid other)
@@ -537,11 +538,11 @@ module _ (program : Program) (given : Spot → Given) (objects : Objects) where
           rw grants (omega arith)
 
   -- a process that does not act stands as before
-  pub stands_still : (at next : Position (library_of program given objects)) (pid place : ℕ)
+  pub stands_still : (at next : Position (plain_of program given objects)) (pid place : ℕ)
       (waits : Halt) (set held : NoteSet) (most more : ℕ)
       → Stands at pid place waits set most
-      → state_of (library_of program given objects) next pid
-      ≡ state_of (library_of program given objects) at pid
+      → state_of (plain_of program given objects) next pid
+      ≡ state_of (plain_of program given objects) at pid
       → phase_of next.world pid ≡ phase_of at.world pid
       → flags_of next.world pid ≡ record { wake = false; notes = held }
       → ((sema : ℕ) → sema < length program.values → Frame at next pid sema)
@@ -685,7 +686,7 @@ module _ (program : Program) (given : Spot → Given) (objects : Objects) where
             λ same. omega arith
 
     -- what a process has at a semaphore stays, if acts are in the space
-    pub frame_meeting : (at next : Position (library_of program given objects)) (seat pid sema : ℕ)
+    pub frame_meeting : (at next : Position (plain_of program given objects)) (seat pid sema : ℕ)
         → ((k : ℕ) → k ≢ meeting seat → posted_of next.world k ≡ posted_of at.world k)
         → ((k : ℕ) → k ≢ meeting seat → level_of next.world k ≡ level_of at.world k)
         → seat < procs_of program → pid < procs_of program → sema < length program.values
@@ -702,7 +703,7 @@ module _ (program : Program) (given : Spot → Given) (objects : Objects) where
         far is = meeting_apart sema pid seat there below low (sym is)
 
     -- what a process has in the space stays, if acts touch another Rendez
-    pub space_by : (at next : Position (library_of program given objects)) (r pid : ℕ)
+    pub space_by : (at next : Position (plain_of program given objects)) (r pid : ℕ)
         → ((k : ℕ) → k ≢ r → posted_of next.world k ≡ posted_of at.world k)
         → ((k : ℕ) → k ≢ r → level_of next.world k ≡ level_of at.world k)
         → meeting pid ≢ r → place_at next pid ≡ place_at at pid → SpaceFrame at next pid
@@ -714,7 +715,7 @@ module _ (program : Program) (given : Spot → Given) (objects : Objects) where
         }
 
     -- what a process has at a semaphore stays, if acts are of another seat
-    pub frame_by : (at next : Position (library_of program given objects))
+    pub frame_by : (at next : Position (plain_of program given objects))
         (seat sema : ℕ) (t : SemaState) (pid other : ℕ)
         → ((r : ℕ) → r ≢ rendez sema seat → posted_of next.world r ≡ posted_of at.world r)
         → ((r : ℕ) → r ≢ rendez sema seat → level_of next.world r ≡ level_of at.world r)
@@ -747,7 +748,7 @@ module _ (program : Program) (given : Spot → Given) (objects : Objects) where
             (sym (changed.elsewhere other apart)) (record { stage = refl; grants = refl })
 
     -- the same of the acts of one process
-    pub frame_far : (at next : Position (library_of program given objects))
+    pub frame_far : (at next : Position (plain_of program given objects))
         (mover seat sema : ℕ) (t : SemaState) (pid other : ℕ)
         → Stays (such_calls program given objects) mover seat (rendez sema seat) at next
         → Changed at next sema t

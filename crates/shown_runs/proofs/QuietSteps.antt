@@ -16,10 +16,11 @@ use Rattle.calls.specs.Pipes.{Direction}
 use Rattle.calls.specs.Program.{Program, procs_of}
 use Rattle.call_machines.specs.Schedules.{Position, state_of}
 use Rattle.object_machines.specs.ObjectCalls.{Objects, sema_state}
-use Rattle.explored_calls.specs.LibraryCalls.{AreItsObjects, Given, Spot, library_of}
+use Rattle.explored_calls.specs.LibraryCalls.{AreItsObjects, Given, Spot}
 use Rattle.explored_calls.proofs.PipePhases.{IsQuiet}
 use Rattle.explored_calls.proofs.Queued.{Halt, Queued}
 use Rattle.explored_calls.proofs.Queued.Halt.{Free}
+use Rattle.shown_runs.proofs.Plain.{plain_of}
 use Rattle.shown_runs.proofs.Acts.{IsSized, Reached, Stays}
 use Rattle.shown_runs.proofs.Piped.{Piped, keeps_one, keeps_two, of_no_member, of_no_seat}
 use Rattle.shown_runs.proofs.Piped.{piped_on}
@@ -46,12 +47,12 @@ module _ (program : Program) (given : Spot → Given) (objects : Objects)
   -- a quiet position is come to
   pub record ComesQuiet (now : Queued) (most : ℕ) (ways : List Bool) : Type 0 where
     -- the position that is come to
-    pub next : Position (library_of program given objects)
+    pub next : Position (plain_of program given objects)
     -- it is quiet, as the lines say
     pub quiet : Quiet program given objects now most ways next
 
   -- a process of which the lines say the same stands the same
-  pub same_stands : (at : Position (library_of program given objects)) (q now : Queued) (pid : ℕ)
+  pub same_stands : (at : Position (plain_of program given objects)) (q now : Queued) (pid : ℕ)
       (most : ℕ) → SameFor q now pid
       → Stands program given objects at pid (q.place pid) (q.waits pid) (q.notes pid) most
       → Stands program given objects at pid (now.place pid) (now.waits pid) (now.notes pid) most
@@ -68,7 +69,7 @@ module _ (program : Program) (given : Spot → Given) (objects : Objects)
 
   -- acts of a process at one semaphore, which leave all others as they were
   pub record OwnStep (q now : Queued) (most : ℕ)
-      (at next : Position (library_of program given objects)) (pid sema : ℕ) (t : SemaState)
+      (at next : Position (plain_of program given objects)) (pid sema : ℕ) (t : SemaState)
       : Type 0 where
     -- some schedule comes to the next position
     pub reached : Reached (such_calls program given objects) next
@@ -108,7 +109,7 @@ module _ (program : Program) (given : Spot → Given) (objects : Objects)
     pub pipes : now.pipes ≡ q.pipes
 
   -- where the space stays the lines of tags are right still
-  pub tags_stay : (q now : Queued) (at next : Position (library_of program given objects))
+  pub tags_stay : (q now : Queued) (at next : Position (plain_of program given objects))
       → next.object.space ≡ at.object.space
       → ((tag : ℕ) → now.line (want.Partner tag) ≡ q.line (want.Partner tag))
       → ((tag : ℕ) → q.line (want.Partner tag) ≡ line_of (waiter_of at.object.space tag))
@@ -119,7 +120,7 @@ module _ (program : Program) (given : Spot → Given) (objects : Objects)
 
   -- so a quiet position leads to a quiet one
   pub own_step : (q now : Queued) (most : ℕ) (ways : List Bool)
-      (at next : Position (library_of program given objects)) (pid sema : ℕ) (t : SemaState)
+      (at next : Position (plain_of program given objects)) (pid sema : ℕ) (t : SemaState)
       → pid < procs_of program → sema < length program.values
       → Quiet program given objects q most ways at → OwnStep q now most at next pid sema t
       → Quiet program given objects now (suc most) ways next
@@ -191,7 +192,7 @@ module _ (program : Program) (given : Spot → Given) (objects : Objects)
   -- an act of a process at no semaphore: notes of one process may change, and the place of the one
   -- that acts
   pub record StillStep (q now : Queued) (later : List Bool)
-      (at next : Position (library_of program given objects)) (pid noted r : ℕ) : Type 0 where
+      (at next : Position (plain_of program given objects)) (pid noted r : ℕ) : Type 0 where
     -- some schedule comes to the next position
     pub reached : Reached (such_calls program given objects) next
     -- it has a place for each
@@ -237,7 +238,7 @@ module _ (program : Program) (given : Spot → Given) (objects : Objects)
 
   -- so a quiet position leads to a quiet one
   pub still_step : (q now : Queued) (most : ℕ) (ways later : List Bool)
-      (at next : Position (library_of program given objects)) (pid noted r : ℕ)
+      (at next : Position (plain_of program given objects)) (pid noted r : ℕ)
       → Quiet program given objects q most ways at → StillStep q now later at next pid noted r
       → Quiet program given objects now (suc most) later next
   still_step q now most ways later at next pid noted r quiet step =
@@ -271,13 +272,13 @@ module _ (program : Program) (given : Spot → Given) (objects : Objects)
             was_quiet is_quiet) (omega arith));
       }
     where
-      was_quiet : IsQuiet objects (state_of (library_of program given objects) at pid)
+      was_quiet : IsQuiet objects (state_of (plain_of program given objects) at pid)
       was_quiet =
           quiet_by program given objects at pid (q.place pid) Free tt
           (subst (λ (w : Halt). StandsBy program given objects at pid (q.place pid) w) step.waited
           (quiet.each pid step.low).stands)
 
-      is_quiet : IsQuiet objects (state_of (library_of program given objects) next pid)
+      is_quiet : IsQuiet objects (state_of (plain_of program given objects) next pid)
       is_quiet = quiet_by program given objects next pid (now.place pid) Free tt step.idle
 
       sema_same : (sema : ℕ)
@@ -360,7 +361,7 @@ module _ (program : Program) (given : Spot → Given) (objects : Objects)
   -- acts of a process in the space, with the member of this seat, which may be its own; they leave
   -- all others as they were
   pub record MeetStep (q now : Queued) (most : ℕ)
-      (at next : Position (library_of program given objects)) (pid seat : ℕ) (places : List Place)
+      (at next : Position (plain_of program given objects)) (pid seat : ℕ) (places : List Place)
       : Type 0 where
     -- some schedule comes to the next position
     pub reached : Reached (such_calls program given objects) next
@@ -368,8 +369,8 @@ module _ (program : Program) (given : Spot → Given) (objects : Objects)
     pub sized : IsSized (such_calls program given objects) next
     -- nobody else has gone on in its machine
     pub states : (other : ℕ) → other ≢ pid → other ≢ seat
-        → state_of (library_of program given objects) next other
-        ≡ state_of (library_of program given objects) at other
+        → state_of (plain_of program given objects) next other
+        ≡ state_of (plain_of program given objects) at other
     -- or in a sleep or a wakeup
     pub phases : (other : ℕ) → other ≢ pid → other ≢ seat
         → phase_of next.world other ≡ phase_of at.world other
@@ -425,7 +426,7 @@ module _ (program : Program) (given : Spot → Given) (objects : Objects)
 
   -- so a quiet position leads to a quiet one
   pub meet_step : (q now : Queued) (most : ℕ) (ways : List Bool)
-      (at next : Position (library_of program given objects)) (pid seat : ℕ) (places : List Place)
+      (at next : Position (plain_of program given objects)) (pid seat : ℕ) (places : List Place)
       → seat < procs_of program
       → Quiet program given objects q most ways at → MeetStep q now most at next pid seat places
       → Quiet program given objects now (suc most) ways next

@@ -47,8 +47,7 @@ use Rattle.object_machines.specs.ObjectCalls.{object_does, opening_pipe, pipe_at
 use Rattle.object_machines.specs.ObjectCalls.ObjectCall.{AtPipe}
 use Rattle.object_machines.specs.ObjectCalls.ObjectReply.{ByPipe}
 use Rattle.object_machines.specs.ObjectCalls.ObjectRequest.{OfPipe}
-use Rattle.explored_calls.specs.LibraryCalls.{AreItsObjects, Given, Spot, library_of}
-use Rattle.explored_calls.specs.LibraryCalls.{library_program}
+use Rattle.explored_calls.specs.LibraryCalls.{AreItsObjects, Given, Spot}
 use Rattle.explored_calls.proofs.Directions.{ReadsSo, finds_so, found_by, shown}
 use Rattle.explored_calls.proofs.Directions.{reads_so as takes_so}
 use Rattle.explored_calls.proofs.Lists.{at_one}
@@ -57,7 +56,8 @@ use Rattle.explored_calls.proofs.PipesMoved as moved
 use Rattle.explored_calls.proofs.Queued.{Halt, Queued}
 use Rattle.explored_calls.proofs.Queued.Amid.{Blocks}
 use Rattle.explored_calls.proofs.Queued.Halt.{Free, Stays as IsAmid}
-use Rattle.shown_runs.specs.ShownRuns.{arrived, spot_of}
+use Rattle.shown_runs.specs.ShownRuns.{spot_of}
+use Rattle.shown_runs.proofs.Plain.{arrived, plain_of, plain_program}
 use Rattle.shown_runs.proofs.CallSteps.{at_call, begins, in_library, known_idle, leads_to}
 use Rattle.shown_runs.proofs.Piped.{AreDue, arrived_quiet, at_pipe_quiet, direction_at, of_world}
 use Rattle.shown_runs.proofs.Piped.{writer_of}
@@ -78,7 +78,7 @@ by_message Stream more message = absurd cc
 
 module _ (program : Program) (given : Spot → Given) (objects : Objects)
     (are : AreItsObjects program objects) (q : Queued) (most : ℕ) (ways : List Bool)
-    (at : Position (library_of program given objects))
+    (at : Position (plain_of program given objects))
     (quiet : Quiet program given objects q most ways at) (pid : ℕ) (low : pid < procs_of program)
     (line : Line) (line_is : slice_get program.lines (q.place pid) ≡ Some line)
     (none : q.waits pid ≡ Free) (pipe : ℕ) (there : pipe < length program.pipes) (x : Direction)
@@ -89,7 +89,7 @@ module _ (program : Program) (given : Spot → Given) (objects : Objects)
   d = direction_at program given objects at pipe
 
   abbrev fit : PipeFits objects program d
-      (λ (n : ℕ). state_of (library_of program given objects) at n) q.pipes pipe
+      (λ (n : ℕ). state_of (plain_of program given objects) at n) q.pipes pipe
   fit = quiet.piped.fits.each pipe there
 
   -- the explorer has it so
@@ -112,7 +112,7 @@ module _ (program : Program) (given : Spot → Given) (objects : Objects)
   -- where the process is after its call has become this
   abbrev landed : CallState → ProgramState Spot ObjectCall
   landed call_is =
-      machines.follows (object_calls objects) (library_program program given) spot
+      machines.follows (object_calls objects) (plain_program program given) spot
       (AtPipe pipe call_is) (object_does objects (AtPipe pipe call_is))
 
   in_messages : (test : Bool) → by_mode (pipe_at objects pipe).row.mode false test ≡ false
@@ -125,7 +125,7 @@ module _ (program : Program) (given : Spot → Given) (objects : Objects)
   finds_there told is =
       ap finds shown_is ∙ (finds_so fit.by d fit.is_shown part ∙ ap found_by is)
 
-  was_quiet : IsQuiet objects (state_of (library_of program given objects) at pid)
+  was_quiet : IsQuiet objects (state_of (plain_of program given objects) at pid)
   was_quiet =
       quiet_by program given objects at pid (q.place pid) Free tt
       (subst (λ (w : Halt). StandsBy program given objects at pid (q.place pid) w) none
@@ -168,17 +168,17 @@ module _ (program : Program) (given : Spot → Given) (objects : Objects)
     fits_then : PipesFit objects program
         (slice_set at.object.pipes pipe (part_after d part d.rest))
         (at_one pid (arrived program given objects pid line.next)
-        (λ (n : ℕ). state_of (library_of program given objects) at n)) now.pipes
+        (λ (n : ℕ). state_of (plain_of program given objects) at n)) now.pipes
     fits_then =
         subst (PipesFit objects program
         (slice_set at.object.pipes pipe (part_after d part d.rest))
         (at_one pid (arrived program given objects pid line.next)
-        (λ (n : ℕ). state_of (library_of program given objects) at n)))
+        (λ (n : ℕ). state_of (plain_of program given objects) at n)))
         (sym (pipes_are
         ∙ (ap (λ (n : ℕ). slice_set q.pipes pipe (read_from n x)) (sym part_is)
         ∙ ap (λ (one : Direction). slice_set q.pipes pipe (read_from part one)) shown_is)))
         (moved.same_puts objects program at.object.pipes
-        (λ (n : ℕ). state_of (library_of program given objects) at n) q.pipes pid low
+        (λ (n : ℕ). state_of (plain_of program given objects) at n) q.pipes pid low
         quiet.piped.fits pipe there (arrived program given objects pid line.next)
         (arrived_quiet program given objects pid line.next).awake
         (λ other apart. was_quiet.puts other)
@@ -370,12 +370,12 @@ module _ (program : Program) (given : Spot → Given) (objects : Objects)
     -- it has asked
     asked : (row : WokenRow) (told : PipeReply) → part_told d part d.rest ≡ told
         → is_pipe_unworn told ≡ true
-        → GoesTo row ((library_of program given objects).machine.goes_on
+        → GoesTo row ((plain_of program given objects).machine.goes_on
         (In spot (AtPipe pipe (reads_at (FillState.Filling 0 None))))
         (Outcome.Replied (ByPipe told)))
     asked row told told_is unworn =
         goes_as (such_calls program given objects) pid row _ at _
-        (ap (λ (r : PipeReply). (library_of program given objects).machine.goes_on
+        (ap (λ (r : PipeReply). (plain_of program given objects).machine.goes_on
         (In spot (AtPipe pipe (reads_at (FillState.Filling 0 None))))
         (Outcome.Replied (ByPipe r))) told_is)
         (goes_asked (such_calls program given objects) pid row _ at
@@ -394,7 +394,7 @@ module _ (program : Program) (given : Spot → Given) (objects : Objects)
         (0 + count) number))
 
     message_read : (count : ℕ) (number : Option ℕ)
-        → (library_of program given objects).machine.goes_on
+        → (plain_of program given objects).machine.goes_on
         (In spot (AtPipe pipe (reads_at (FillState.Filling 0 None))))
         (Outcome.Replied (ByPipe (PipeReply.Got count number))) ≡ read_state count number
     message_read count number =
@@ -532,12 +532,12 @@ module _ (program : Program) (given : Spot → Given) (objects : Objects)
     -- it has asked
     tried : (row : WokenRow) (told : PipeReply) → part_told d part d.rest ≡ told
         → is_pipe_unworn told ≡ true
-        → GoesTo row ((library_of program given objects).machine.goes_on
+        → GoesTo row ((plain_of program given objects).machine.goes_on
         (In spot (AtPipe pipe (tries_at (FillState.Filling 0 None))))
         (Outcome.Replied (ByPipe told)))
     tried row told told_is unworn =
         goes_as (such_calls program given objects) pid row _ at _
-        (ap (λ (r : PipeReply). (library_of program given objects).machine.goes_on
+        (ap (λ (r : PipeReply). (plain_of program given objects).machine.goes_on
         (In spot (AtPipe pipe (tries_at (FillState.Filling 0 None))))
         (Outcome.Replied (ByPipe r))) told_is)
         (goes_asked (such_calls program given objects) pid row _ at
@@ -550,7 +550,7 @@ module _ (program : Program) (given : Spot → Given) (objects : Objects)
         (ap is_pipe_unworn told_is ∙ unworn))
 
     message_tried : (count : ℕ) (number : Option ℕ)
-        → (library_of program given objects).machine.goes_on
+        → (plain_of program given objects).machine.goes_on
         (In spot (AtPipe pipe (tries_at (FillState.Filling 0 None))))
         (Outcome.Replied (ByPipe (PipeReply.Got count number)))
         ≡ landed (tries_at (filled_to (pipe_at objects pipe).row (length buffer) tried_of false

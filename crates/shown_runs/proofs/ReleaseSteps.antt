@@ -32,7 +32,7 @@ use Rattle.object_machines.specs.ObjectCalls.ObjectCall.{AtSema}
 use Rattle.object_machines.specs.ObjectCalls.ObjectReply.{BySema}
 use Rattle.object_machines.specs.ObjectCalls.ObjectRequest.{OfSema}
 use Rattle.object_machines.specs.ObjectEnds.{is_sema_unworn}
-use Rattle.explored_calls.specs.LibraryCalls.{AreItsObjects, Given, Spot, library_of}
+use Rattle.explored_calls.specs.LibraryCalls.{AreItsObjects, Given, Spot}
 use Rattle.explored_calls.proofs.ExplorerSteps.{units_of, with_units}
 use Rattle.explored_calls.proofs.LineLemmas.{stands_taken}
 use Rattle.explored_calls.proofs.PipePhases.{IsQuiet}
@@ -41,6 +41,7 @@ use Rattle.explored_calls.proofs.Queued.{served_at}
 use Rattle.explored_calls.proofs.Queued.{serves, stands_nowhere}
 use Rattle.explored_calls.proofs.Queued.Halt.{For, Free, Stays}
 use Rattle.shown_runs.specs.ShownRuns.{spot_of}
+use Rattle.shown_runs.proofs.Plain.{plain_of}
 use Rattle.shown_runs.proofs.Acts.{Leads, asks}
 use Rattle.shown_runs.proofs.CallSteps.{apart_numbers, at_call, at_else, at_self, begins}
 use Rattle.shown_runs.proofs.CallSteps.{changed_after, every, frame_words, goes_by_request}
@@ -66,7 +67,7 @@ waits_for_it what (Stays amid) is = cc
 
 module _ (program : Program) (given : Spot → Given) (objects : Objects)
     (are : AreItsObjects program objects) (q : Queued) (most : ℕ) (ways : List Bool)
-    (at : Position (library_of program given objects))
+    (at : Position (plain_of program given objects))
     (quiet : Quiet program given objects q most ways at) (lines : AreLines (procs_of program) q)
     (by : ℕ) (low : by < procs_of program) (sema : ℕ) (there : sema < length program.values)
     (line : Line) (line_is : slice_get program.lines (q.place by) ≡ Some line)
@@ -226,9 +227,9 @@ module _ (program : Program) (given : Spot → Given) (objects : Objects)
 
     led : Leads (such_calls program given objects) by by (rendez program given objects sema by)
         (record {
-          state = (library_of program given objects).machine.goes_on
+          state = (plain_of program given objects).machine.goes_on
               (In (spot_of by (q.place by)) (AtSema sema (Gives count Releasing)))
-              (Outcome.Replied ((library_of program given objects).answer at.object
+              (Outcome.Replied ((plain_of program given objects).answer at.object
               (OfSema sema (ReleaseAndNext count))));
           stage = phase.Idle;
           flags = record { wake = false; notes = q.notes by };
@@ -396,13 +397,13 @@ module _ (program : Program) (given : Spot → Given) (objects : Objects)
                 (space_frame pid) (omega arith);
           }
 
-    waking : state_of (library_of program given objects) led.next by
+    waking : state_of (plain_of program given objects) led.next by
         ≡ In (spot_of by (q.place by)) (AtSema sema (Gives count
         (Waking ((sema_at program given objects at sema).value + count) x
         (grants_of (named_one (served_all (sema_at program given objects at sema) count)) x))))
     waking =
         led.known.now.state_is
-        ∙ ap (λ (told : HoldReply). (library_of program given objects).machine.goes_on
+        ∙ ap (λ (told : HoldReply). (plain_of program given objects).machine.goes_on
         (In (spot_of by (q.place by)) (AtSema sema (Gives count Releasing)))
         (Outcome.Replied (BySema told))) so.answered.told_is
 
@@ -415,13 +416,13 @@ module _ (program : Program) (given : Spot → Given) (objects : Objects)
         (λ pipe k of. words k) (λ pipe k of. levels k) changed.pipes was_quiet is_quiet was_quiet
         is_quiet) (omega arith)
       where
-        was_quiet : IsQuiet objects (state_of (library_of program given objects) at by)
+        was_quiet : IsQuiet objects (state_of (plain_of program given objects) at by)
         was_quiet =
             quiet_by program given objects at by (q.place by) Free tt
             (subst (λ (w : Halt). StandsBy program given objects at by (q.place by) w) none
             (quiet.each by low).stands)
 
-        is_quiet : IsQuiet objects (state_of (library_of program given objects) led.next by)
+        is_quiet : IsQuiet objects (state_of (plain_of program given objects) led.next by)
         is_quiet =
             subst (IsQuiet objects) (sym waking) (record { puts = λ pipe. refl; awake = tt })
 

@@ -13,13 +13,14 @@ use Rattle.calls.specs.Pipes.{Direction}
 use Rattle.calls.specs.Program.{Program}
 use Rattle.call_machines.specs.Schedules.{Position}
 use Rattle.object_machines.specs.ObjectCalls.{Objects}
-use Rattle.explored_calls.specs.LibraryCalls.{AreItsObjects, Given, Spot, library_of}
+use Rattle.explored_calls.specs.LibraryCalls.{AreItsObjects, Given, Spot}
 use Rattle.explored_calls.proofs.ExplorerPipes.{halted}
 use Rattle.explored_calls.proofs.Lists.{at_one}
 use Rattle.explored_calls.proofs.Queued.{AreLines, Halt, Queued, gives_up, gone, is_for, joins}
 use Rattle.explored_calls.proofs.Queued.{serves, with_values}
 use Rattle.explored_calls.proofs.Queued.Amid.{Blocks, ReadsOn, Wrote}
 use Rattle.explored_calls.proofs.Queued.Halt.{For, Free, Stays}
+use Rattle.shown_runs.proofs.Plain.{plain_of}
 use Rattle.shown_runs.proofs.CallSteps.{at_else, at_self}
 use Rattle.shown_runs.proofs.PipeSteps.{MovesTo}
 use Rattle.shown_runs.proofs.Piped.{Piped, piped_on}
@@ -51,7 +52,7 @@ pub record SayTheSame (q now : Queued) : Type 0 where
 -- a position that is quiet by the one is by the other
 pub quiet_as : (program : Program) (given : Spot → Given) (objects : Objects)
     (are : AreItsObjects program objects) (q now : Queued) (most : ℕ) (ways : List Bool)
-    (at : Position (library_of program given objects)) → SayTheSame q now
+    (at : Position (plain_of program given objects)) → SayTheSame q now
     → Quiet program given objects q most ways at → Quiet program given objects now most ways at
 quiet_as program given objects are q now most ways at same quiet =
     record {
@@ -79,7 +80,7 @@ quiet_as program given objects are q now most ways at same quiet =
 -- One that is quiet is so after more steps, in which nothing happens.
 pub quiet_more : (program : Program) (given : Spot → Given) (objects : Objects)
     (are : AreItsObjects program objects) (q : Queued) (most : ℕ) (ways : List Bool)
-    (at : Position (library_of program given objects))
+    (at : Position (plain_of program given objects))
     → Quiet program given objects q most ways at
     → Quiet program given objects q (suc most) ways at
 quiet_more program given objects are q most ways at quiet =

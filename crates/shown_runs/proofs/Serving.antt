@@ -34,12 +34,13 @@ use Rattle.object_machines.specs.ObjectCalls.ObjectCall.{AtSema}
 use Rattle.object_machines.specs.ObjectCalls.ObjectReply.{BySema}
 use Rattle.object_machines.specs.ObjectCalls.ObjectRequest.{OfSema}
 use Rattle.object_machines.specs.ObjectEnds.{is_sema_unworn}
-use Rattle.explored_calls.specs.LibraryCalls.{AreItsObjects, Given, Spot, library_of}
+use Rattle.explored_calls.specs.LibraryCalls.{AreItsObjects, Given, Spot}
 use Rattle.explored_calls.proofs.Queued.{Queued}
 use Rattle.explored_calls.proofs.UnitFacts
 use Rattle.explored_calls.proofs.UnitFacts.{Answered}
 use Rattle.explored_calls.proofs.Queued.Halt.{For, Free}
-use Rattle.shown_runs.specs.ShownRuns.{arrived, rendez_at, spot_of}
+use Rattle.shown_runs.specs.ShownRuns.{rendez_at, spot_of}
+use Rattle.shown_runs.proofs.Plain.{arrived, plain_of}
 use Rattle.shown_runs.proofs.Acts.{Here, IsSized, Known, Leads, Reached, asks, goes_on_noted}
 use Rattle.shown_runs.proofs.Acts.{goes_on_well, led_so, on, returns}
 use Rattle.shown_runs.proofs.CallSteps.{in_library, leads_to, row_low}
@@ -54,7 +55,7 @@ module _ (program : Program) (given : Spot → Given) (objects : Objects) where
   -- ---- one that was granted its unit, and is still asleep
 
   -- it sleeps in a semacquire, has its unit, and is to go on there
-  pub record IsServed (at : Position (library_of program given objects)) (pid sema to : ℕ)
+  pub record IsServed (at : Position (plain_of program given objects)) (pid sema to : ℕ)
       (set : NoteSet) (most : ℕ) : Type 0 where
     -- the place of its semacquire
     pub place : ℕ
@@ -67,7 +68,7 @@ module _ (program : Program) (given : Spot → Given) (objects : Objects) where
     -- that line leads to where it is to go on
     pub next_is : line.next ≡ to
     -- its machine waits with that number
-    pub state_is : state_of (library_of program given objects) at pid
+    pub state_is : state_of (plain_of program given objects) at pid
         ≡ In (spot_of pid place) (AtSema sema (Takes pid (Waits number)))
     -- it is asleep in the Rendez of its seat
     pub phase_is : phase_of at.world pid ≡ phase.Asleep (rendez_at objects sema pid) number
@@ -82,7 +83,7 @@ module _ (program : Program) (given : Spot → Given) (objects : Objects) where
   -- and are asleep, and these are to be named. All others stand as the explorer has them, once all
   -- of the list are served.
   pub record Serving (q : Queued) (sema by : ℕ) (served names : List ℕ) (most : ℕ)
-      (ways : List Bool) (at : Position (library_of program given objects)) : Type 0 where
+      (ways : List Bool) (at : Position (plain_of program given objects)) : Type 0 where
     -- some schedule of the library comes here
     pub reached : Reached (such_calls program given objects) at
     -- it has a place for each process and each Rendez
@@ -139,7 +140,7 @@ module _ (program : Program) (given : Spot → Given) (objects : Objects) where
   module _ (are : AreItsObjects program objects) (sema pid place : ℕ) (line : Line)
       (there : sema < length program.values) (low : pid < procs_of program)
       (line_is : slice_get program.lines place ≡ Some line)
-      (at : Position (library_of program given objects))
+      (at : Position (plain_of program given objects))
       (number word level : ℕ) (set : NoteSet) (object : ObjectStates)
       (seat_there : pid < length (sema_state objects object sema).stages)
       (granted : stage_of (sema_state objects object sema) pid ≡ Granted) where
@@ -219,7 +220,7 @@ module _ (program : Program) (given : Spot → Given) (objects : Objects) where
         (λ known. asks (such_calls program given objects) pid pid _ _ _ known
         (in_library program given objects pid low) (OfSema sema (Alone (Collect pid))) refl
         (ap (λ (r : HoldReply). is_sema_unworn r.first) collects.told_is)))
-        (ap (λ (told : HoldReply). (library_of program given objects).machine.goes_on
+        (ap (λ (told : HoldReply). (plain_of program given objects).machine.goes_on
         (In (spot_of pid place) (AtSema sema (Takes pid Asking)))
         (Outcome.Replied (BySema told))) collects.told_is
         ∙ leads_to program given objects pid place line ending.Done line_is)
@@ -250,7 +251,7 @@ module _ (program : Program) (given : Spot → Given) (objects : Objects) where
         (asks (such_calls program given objects) pid pid _ _ _ known
         (in_library program given objects pid low) (OfSema sema (Alone (Leave pid))) refl
         (ap (λ (r : HoldReply). is_sema_unworn r.first) leaves.told_is))
-        (ap (λ (told : HoldReply). (library_of program given objects).machine.goes_on
+        (ap (λ (told : HoldReply). (plain_of program given objects).machine.goes_on
         (In (spot_of pid place) (AtSema sema (Takes pid (Leaving (fault.Interrupted set)))))
         (Outcome.Replied (BySema told))) leaves.told_is) refl refl)
         (λ left. returns (such_calls program given objects) pid (rendez_at objects sema pid)

@@ -33,12 +33,13 @@ use Rattle.object_machines.specs.ObjectCalls.ObjectCall.{AtSema}
 use Rattle.object_machines.specs.ObjectCalls.ObjectReply.{BySema}
 use Rattle.object_machines.specs.ObjectCalls.ObjectRequest.{OfSema}
 use Rattle.object_machines.specs.ObjectEnds.{is_sema_unworn}
-use Rattle.explored_calls.specs.LibraryCalls.{AreItsObjects, Given, Spot, library_of}
+use Rattle.explored_calls.specs.LibraryCalls.{AreItsObjects, Given, Spot}
 use Rattle.explored_calls.proofs.Lists.{at_one}
 use Rattle.explored_calls.proofs.PipePhases.{IsQuiet}
 use Rattle.explored_calls.proofs.Queued.{Halt, Queued, gone, itself}
 use Rattle.explored_calls.proofs.Queued.Halt.{For, Free}
-use Rattle.shown_runs.specs.ShownRuns.{arrived, rendez_at, spot_of}
+use Rattle.shown_runs.specs.ShownRuns.{rendez_at, spot_of}
+use Rattle.shown_runs.proofs.Plain.{arrived, plain_of}
 use Rattle.shown_runs.proofs.Acts.{Leads, asks, wakes}
 use Rattle.shown_runs.proofs.CallSteps.{apart_numbers, at_else, at_self, changed_after, every}
 use Rattle.shown_runs.proofs.CallSteps.{frame_words, in_library, leads_to, row_low}
@@ -61,21 +62,21 @@ module _ (program : Program) (given : Spot → Given) (objects : Objects)
   pub record IsNaming (q : Queued) (sema by : ℕ) (served names : List ℕ) (most : ℕ)
       (ways : List Bool) (spot : Spot) (count sum : ℕ) : Type 0 where
     -- the position that is come to
-    pub next : Position (library_of program given objects)
+    pub next : Position (plain_of program given objects)
     -- some are still asleep with a unit
     pub serving : Serving program given objects q sema by served names most ways next
     -- the process that releases is to ask who is next
-    pub naming : state_of (library_of program given objects) next by
+    pub naming : state_of (plain_of program given objects) next by
         ≡ In spot (AtSema sema (Gives count (Naming sum)))
 
   -- ---- one seat is woken, and goes on
 
   module _ (q : Queued) (sema by x : ℕ) (xs names : List ℕ) (most : ℕ) (ways : List Bool)
-      (at : Position (library_of program given objects))
+      (at : Position (plain_of program given objects))
       (there : sema < length program.values) (low : by < procs_of program)
       (spot : Spot) (count sum grants : ℕ)
       (serving : Serving program given objects q sema by (x ∷ xs) names most ways at)
-      (waking : state_of (library_of program given objects) at by
+      (waking : state_of (plain_of program given objects) at by
       ≡ In spot (AtSema sema (Gives count (Waking sum x grants))))
       (under : grants ≤ grants_of (sema_at program given objects at sema) x) where
     x_in : stands_in (x ∷ xs) x ≡ true
@@ -209,8 +210,8 @@ module _ (program : Program) (given : Spot → Given) (objects : Objects)
         (ap (λ (places : List Place). place_of places pid) changed.space)
 
     state_stays : (pid : ℕ) → pid ≢ by → pid ≢ x
-        → state_of (library_of program given objects) goes.next pid
-        ≡ state_of (library_of program given objects) at pid
+        → state_of (plain_of program given objects) goes.next pid
+        ≡ state_of (plain_of program given objects) at pid
     state_stays pid not_by not_x =
         goes.stays.states pid not_x ∙ woken.stays.states pid not_by
 
@@ -394,9 +395,9 @@ module _ (program : Program) (given : Spot → Given) (objects : Objects)
       (count sum : ℕ) where
     -- a release that has just asked who is next
     module _ (served : List ℕ) (names now : List ℕ)
-        (at : Position (library_of program given objects))
+        (at : Position (plain_of program given objects))
         (serving : Serving program given objects q sema by served names most ways at)
-        (naming : state_of (library_of program given objects) at by
+        (naming : state_of (plain_of program given objects) at by
         ≡ In (spot_of by place) (AtSema sema (Gives count (Naming sum))))
         (told : SemaReply) (t : SemaState)
         (answered : (answer_to (sema_at program given objects at sema) NextWake ≡ told)
@@ -406,15 +407,15 @@ module _ (program : Program) (given : Spot → Given) (objects : Objects)
         → SameSeat program given objects (sema_at program given objects at sema) t pid)
         (lined : IsLined program given objects t (slice_index q.values sema)
         (q.line (want.Unit sema)) now)
-        (goes_quiet : IsQuiet objects ((library_of program given objects).machine.goes_on
+        (goes_quiet : IsQuiet objects ((plain_of program given objects).machine.goes_on
         (In (spot_of by place) (AtSema sema (Gives count (Naming sum))))
         (Outcome.Replied (BySema (record { first = told; second = None }))))) where
       asked : Leads (such_calls program given objects) by by
           (rendez program given objects sema by)
           (record {
-            state = (library_of program given objects).machine.goes_on
+            state = (plain_of program given objects).machine.goes_on
                 (In (spot_of by place) (AtSema sema (Gives count (Naming sum))))
-                (Outcome.Replied ((library_of program given objects).answer at.object
+                (Outcome.Replied ((plain_of program given objects).answer at.object
                 (OfSema sema (Alone NextWake))));
             stage = phase.Idle;
             flags = record { wake = false; notes = q.notes by };
@@ -447,13 +448,13 @@ module _ (program : Program) (given : Spot → Given) (objects : Objects)
           (in_library program given objects by low) (OfSema sema (Alone NextWake)) refl
           (ap is_sema_unworn answered.0 ∙ unworn)
 
-      asked_state : state_of (library_of program given objects) asked.next by
-          ≡ (library_of program given objects).machine.goes_on
+      asked_state : state_of (plain_of program given objects) asked.next by
+          ≡ (plain_of program given objects).machine.goes_on
           (In (spot_of by place) (AtSema sema (Gives count (Naming sum))))
           (Outcome.Replied (BySema (record { first = told; second = None })))
       asked_state =
           asked.known.now.state_is
-          ∙ ap (λ (r : SemaReply). (library_of program given objects).machine.goes_on
+          ∙ ap (λ (r : SemaReply). (plain_of program given objects).machine.goes_on
           (In (spot_of by place) (AtSema sema (Gives count (Naming sum))))
           (Outcome.Replied (BySema (record { first = r; second = None })))) answered.0
 
@@ -523,11 +524,11 @@ module _ (program : Program) (given : Spot → Given) (objects : Objects)
           (λ pipe k of. every _ _ _ asked.stays.levels asked.known.now.level_is k)
           asked_changed.pipes was_quiet is_quiet was_quiet is_quiet) (omega arith)
         where
-          was_quiet : IsQuiet objects (state_of (library_of program given objects) at by)
+          was_quiet : IsQuiet objects (state_of (plain_of program given objects) at by)
           was_quiet =
               subst (IsQuiet objects) (sym naming) (record { puts = λ pipe. refl; awake = tt })
 
-          is_quiet : IsQuiet objects (state_of (library_of program given objects) asked.next by)
+          is_quiet : IsQuiet objects (state_of (plain_of program given objects) asked.next by)
           is_quiet = subst (IsQuiet objects) (sym asked_state) goes_quiet
 
       lined_asked : (other : ℕ) → other < length program.values → other ≢ sema
@@ -594,7 +595,7 @@ module _ (program : Program) (given : Spot → Given) (objects : Objects)
 
       -- or nobody is, and the release is over
       quiet_now : served ≡ [] → now ≡ []
-          → (library_of program given objects).machine.goes_on
+          → (plain_of program given objects).machine.goes_on
           (In (spot_of by place) (AtSema sema (Gives count (Naming sum))))
           (Outcome.Replied (BySema (record { first = told; second = None })))
           ≡ arrived program given objects by line.next
@@ -660,9 +661,9 @@ module _ (program : Program) (given : Spot → Given) (objects : Objects)
           lined_by other below (inr apart) = lined_asked other below apart
 
     -- a release that is to ask who is next, and names each who is still asleep
-    pub wakes_all : (names : List ℕ) (at : Position (library_of program given objects))
+    pub wakes_all : (names : List ℕ) (at : Position (plain_of program given objects))
         → Serving program given objects q sema by names names most ways at
-        → state_of (library_of program given objects) at by
+        → state_of (plain_of program given objects) at by
         ≡ In (spot_of by place) (AtSema sema (Gives count (Naming sum)))
         → ComesQuiet program given objects are (gone q by line.next) most ways
     wakes_all [] at serving naming =

@@ -49,13 +49,14 @@ use Rattle.object_machines.specs.ObjectCalls.{pipe_at}
 use Rattle.object_machines.specs.ObjectCalls.ObjectCall.{AtPipe}
 use Rattle.object_machines.specs.ObjectCalls.ObjectReply.{ByPipe}
 use Rattle.object_machines.specs.ObjectCalls.ObjectRequest.{OfPipe}
-use Rattle.explored_calls.specs.LibraryCalls.{AreItsObjects, Given, HasEnd, Spot, library_of}
+use Rattle.explored_calls.specs.LibraryCalls.{AreItsObjects, Given, HasEnd, Spot}
 use Rattle.explored_calls.proofs.Directions.{finds_so, found_by, shown, writes_many, writes_of}
 use Rattle.explored_calls.proofs.PipePhases.{PipeFits, put_in}
 use Rattle.explored_calls.proofs.Queued.{Halt, Queued, Shows}
 use Rattle.explored_calls.proofs.Queued.Amid.{Blocks, ReadsOn, Wrote}
 use Rattle.explored_calls.proofs.Queued.Halt.{For, Free, Stays}
-use Rattle.shown_runs.specs.ShownRuns.{arrived, spot_of}
+use Rattle.shown_runs.specs.ShownRuns.{spot_of}
+use Rattle.shown_runs.proofs.Plain.{arrived, plain_of}
 use Rattle.shown_runs.proofs.Acts.{IsSized, Leads, Reached, asks, falls_asleep, led_so}
 use Rattle.shown_runs.proofs.Acts.{on}
 use Rattle.shown_runs.proofs.CallSteps.{at_call, every, in_library}
@@ -95,16 +96,16 @@ none_told pid = false
 pub told_does : (program : Program) (given : Spot → Given) (objects : Objects) (pid place : ℕ)
     {line : Line} {pipe number : ℕ} {rendez_is : RendezId} (made : CallState)
     → WasTold program given objects (spot_of pid place) line pipe number rendez_is made
-    → (library_of program given objects).machine.does (In (spot_of pid place) (AtPipe pipe made))
+    → (plain_of program given objects).machine.does (In (spot_of pid place) (AtPipe pipe made))
     ≡ Next.Sleep rendez_is number
 told_does program given objects pid place {line} {pipe} {number} made
     (ToRead room is rendez_same at_is) =
-    ap (λ (c : CallState). (library_of program given objects).machine.does
+    ap (λ (c : CallState). (plain_of program given objects).machine.does
     (In (spot_of pid place) (AtPipe pipe c))) at_is
     ∙ ap (λ (r : RendezId). Next.Sleep r number) (sym rendez_same)
 told_does program given objects pid place {line} {pipe} {number} made
     (ToWrite bytes is rendez_same at_is) =
-    ap (λ (c : CallState). (library_of program given objects).machine.does
+    ap (λ (c : CallState). (plain_of program given objects).machine.does
     (In (spot_of pid place) (AtPipe pipe c))) at_is
     ∙ ap (λ (r : RendezId). Next.Sleep r number) (sym rendez_same)
 
@@ -183,12 +184,12 @@ module _ (program : Program) (given : Spot → Given) (objects : Objects)
           (waits_of two k second) (waits_of one k first))
 
   module _ (q : Queued) (most : ℕ) (ways : List Bool)
-      (at : Position (library_of program given objects))
+      (at : Position (plain_of program given objects))
       (quiet : Quiet program given objects (seen none_told q) most ways at) where
     -- ---- one that sleeps in its call
 
     -- it was told to wait, is posted in its Rendez, and asleep
-    pub record SleepsHere (next : Position (library_of program given objects)) (pid : ℕ) : Type 0
+    pub record SleepsHere (next : Position (plain_of program given objects)) (pid : ℕ) : Type 0
       where
         -- the line of its place
         pub line : Line
@@ -206,7 +207,7 @@ module _ (program : Program) (given : Spot → Given) (objects : Objects)
         pub told : WasTold program given objects (spot_of pid (q.place pid)) line pipe number
             rendez_is made
         -- its machine is there
-        pub state_is : state_of (library_of program given objects) next pid
+        pub state_is : state_of (plain_of program given objects) next pid
             ≡ In (spot_of pid (q.place pid)) (AtPipe pipe made)
         -- it is asleep in that Rendez
         pub phase_is : phase_of next.world pid ≡ phase.Asleep rendez_is number
@@ -218,7 +219,7 @@ module _ (program : Program) (given : Spot → Given) (objects : Objects)
         pub waits : WaitsIn pid rendez_is.0
 
     -- each that waits sleeps, of the first so many processes
-    pub record Settled (count : ℕ) (next : Position (library_of program given objects)) : Type 0
+    pub record Settled (count : ℕ) (next : Position (plain_of program given objects)) : Type 0
       where
         -- some schedule comes there
         pub reached : Reached (such_calls program given objects) next
@@ -228,8 +229,8 @@ module _ (program : Program) (given : Spot → Given) (objects : Objects)
         pub object : next.object ≡ at.object
         -- whoever does not sleep so is where it was
         pub states : (pid : ℕ) → (pid < count → q.waits pid ≢ Stays Blocks)
-            → state_of (library_of program given objects) next pid
-            ≡ state_of (library_of program given objects) at pid
+            → state_of (plain_of program given objects) next pid
+            ≡ state_of (plain_of program given objects) at pid
         -- and in the phase that it was in
         pub phases : (pid : ℕ) → (pid < count → q.waits pid ≢ Stays Blocks)
             → phase_of next.world pid ≡ phase_of at.world pid
@@ -260,7 +261,7 @@ module _ (program : Program) (given : Spot → Given) (objects : Objects)
 
     -- ---- one more falls asleep
 
-    module _ (pid : ℕ) (low : pid < procs_of program) (next : Position (library_of program given
+    module _ (pid : ℕ) (low : pid < procs_of program) (next : Position (plain_of program given
         objects)) (settled : Settled pid next) where
       -- one that does not wait
       settles_none : q.waits pid ≢ Stays Blocks → Settled (suc pid) next
@@ -297,20 +298,20 @@ module _ (program : Program) (given : Spot → Given) (objects : Objects)
           (number : ℕ) (rendez_is : RendezId)
           (begins_as : arrived program given objects pid (q.place pid)
           ≡ In (spot_of pid (q.place pid)) (AtPipe pipe first))
-          (asks_so : (library_of program given objects).machine.does
+          (asks_so : (plain_of program given objects).machine.does
           (In (spot_of pid (q.place pid)) (AtPipe pipe first)) ≡ Next.Ask (OfPipe pipe request))
           (unworn : (such_calls program given objects).comes (OfPipe pipe request)
-          ((library_of program given objects).answer at.object (OfPipe pipe request)))
-          (tells : (library_of program given objects).machine.goes_on
+          ((plain_of program given objects).answer at.object (OfPipe pipe request)))
+          (tells : (plain_of program given objects).machine.goes_on
           (In (spot_of pid (q.place pid)) (AtPipe pipe first))
-          (Outcome.Replied ((library_of program given objects).answer at.object
+          (Outcome.Replied ((plain_of program given objects).answer at.object
           (OfPipe pipe request)))
           ≡ In (spot_of pid (q.place pid)) (AtPipe pipe second))
-          (object_stays : (library_of program given objects).after at.object (OfPipe pipe request)
+          (object_stays : (plain_of program given objects).after at.object (OfPipe pipe request)
           ≡ at.object)
           (told : WasTold program given objects (spot_of pid (q.place pid)) line pipe number
           rendez_is second)
-          (sleeps_so : (library_of program given objects).machine.does
+          (sleeps_so : (plain_of program given objects).machine.does
           (In (spot_of pid (q.place pid)) (AtPipe pipe second)) ≡ Next.Sleep rendez_is number)
           (top : number ≢ TOP_LEVEL) (below : level_of at.world rendez_is.0 ≤ number)
           (its : WaitsIn pid rendez_is.0) where
@@ -488,7 +489,7 @@ module _ (program : Program) (given : Spot → Given) (objects : Objects)
     -- the position with so many settled
     pub record SettlesTo (count : ℕ) : Type 0 where
       -- it is this one
-      pub next : Position (library_of program given objects)
+      pub next : Position (plain_of program given objects)
       -- and so many are settled there
       pub settled : Settled count next
 
@@ -501,7 +502,7 @@ module _ (program : Program) (given : Spot → Given) (objects : Objects)
         → is_answered program explored line.call ≡ false) where
       -- nobody's write is to stand
       none_put : (pid : ℕ) → pid < procs_of program → (pipe : ℕ)
-          → put_in (state_of (library_of program given objects) at pid) pipe ≡ None
+          → put_in (state_of (plain_of program given objects) at pid) pipe ≡ None
       none_put pid low pipe =
           (quiet_by program given objects at pid (q.place pid) (seen_by (q.waits pid) false)
           (by (q.waits pid) refl) (quiet.each pid low).stands).puts pipe
@@ -518,7 +519,7 @@ module _ (program : Program) (given : Spot → Given) (objects : Objects)
           by (Stays (ReadsOn room)) is = tt
 
       module _ (pid : ℕ) (low : pid < procs_of program)
-          (next : Position (library_of program given objects)) (settled : Settled pid next)
+          (next : Position (plain_of program given objects)) (settled : Settled pid next)
           (waits : q.waits pid ≡ Stays Blocks) (line : Line)
           (line_is : slice_get program.lines (q.place pid) ≡ Some line) (pipe : ℕ)
           (there : pipe < length program.pipes) where
@@ -526,7 +527,7 @@ module _ (program : Program) (given : Spot → Given) (objects : Objects)
         d = direction_at program given objects at pipe
 
         abbrev fit : PipeFits objects program d
-            (λ (n : ℕ). state_of (library_of program given objects) at n) q.pipes pipe
+            (λ (n : ℕ). state_of (plain_of program given objects) at n) q.pipes pipe
         fit = quiet.piped.fits.each pipe there
 
         -- as the explorer has it
@@ -621,7 +622,7 @@ module _ (program : Program) (given : Spot → Given) (objects : Objects)
                     (writer_rendez (pipe_at objects pipe).row writer)
                     (at_call program given objects pid (q.place pid) line _ line_is made) refl
                     (ap (λ (r : QueueReply). is_pipe_unworn (told_put r)) told_is)
-                    (ap (λ (r : QueueReply). (library_of program given objects).machine.goes_on
+                    (ap (λ (r : QueueReply). (plain_of program given objects).machine.goes_on
                     (In (spot_of pid (q.place pid)) (AtPipe pipe
                     (Writes writer (replicate bytes 0) (TryState.Tries PutState.Putting))))
                     (Outcome.Replied (ByPipe (told_put r)))) told_is)
@@ -704,7 +705,7 @@ module _ (program : Program) (given : Spot → Given) (objects : Objects)
                         (reader_rendez (pipe_at objects pipe).row)
                         (at_call program given objects pid (q.place pid) line _ line_is made) refl
                         (ap is_pipe_unworn told)
-                        (ap (λ (r : PipeReply). (library_of program given objects).machine.goes_on
+                        (ap (λ (r : PipeReply). (plain_of program given objects).machine.goes_on
                         (In (spot_of pid (q.place pid)) (AtPipe pipe
                         (Reads (replicate room 0) (TryState.Tries (FillState.Filling 0 None)))))
                         (Outcome.Replied (ByPipe r))) told)

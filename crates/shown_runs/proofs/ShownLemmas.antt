@@ -1,6 +1,6 @@
 -- What is shown of each schedule of the explorer's machine: a run of the library's calls makes it.
 use Rattle.std.proofs.Common.{true, ◌≡◌, ◌≢◌, ◌⊎◌, inl, inr, ℕ, zero, suc, ◌<◌, ◌≤◌, nat_lt}
-use Rattle.std.proofs.Common.{Bool, false, Option, Some, None}
+use Rattle.std.proofs.Common.{Bool, false, Some}
 use Rattle.std.proofs.Common.{List, [], ◌∷◌, length, refl, sym, ap, ◌∙◌, subst, arith}
 use Rattle.std.specs.Prelude.{replicate, slice_get}
 use Rattle.std.proofs.lemmas.Bool.Decides.{nat_tests}
@@ -17,87 +17,34 @@ use Rattle.calls.specs.Position.{Position}
 use Rattle.calls.specs.Program.{Program, procs_of}
 use Rattle.call_machines.specs.Machine.{Next}
 use Rattle.call_machines.specs.Programs.{ProgramState}
-use Rattle.call_machines.specs.Runs.{Act, IsOfCalls, OwnState, Step, System, own_in}
-use Rattle.call_machines.specs.Replies.{AreAskedSo}
+use Rattle.call_machines.specs.Programs.ProgramState.{In}
+use Rattle.call_machines.specs.Runs.{OwnState, own_in}
 use Rattle.call_machines.specs.Runs.{world_at}
 use Rattle.call_machines.specs.Schedules as runs
 use Rattle.call_machines.specs.Schedules.{act_of, acted, makers_of, run_of, state_of, with_step}
-use Rattle.call_machines.proofs.ScheduleLemmas.{played_so, schedules_are_runs}
 use Rattle.pipe_machines.specs.PipeRuns.{CallState}
 use Rattle.object_machines.specs.ObjectCalls.{ObjectCall, Objects, object_does}
 use Rattle.object_machines.specs.ObjectCalls.ObjectCall.{AtPipe}
-use Rattle.explored_calls.specs.LibraryCalls.{AreItsObjects, Given, Spot, library_of}
+use Rattle.explored_calls.specs.LibraryCalls.{AreItsObjects, Given, Spot}
+use Rattle.timed_machines.specs.TimedCalls.TimedCall.{Plain}
+use Rattle.explored_calls.specs.TimedLibrary.{timed_library_of}
+use Rattle.explored_calls.proofs.TickMoves.{is_tick}
 use Rattle.explored_calls.proofs.Queued.{Halt, Queued, Shows, itself, process_of, stands_by}
 use Rattle.explored_calls.proofs.Queued.Amid.{Blocks, ReadsOn, Wrote}
 use Rattle.explored_calls.proofs.Queued.Halt.{For, Free, Stays}
 use Rattle.shown_runs.specs.ShownRuns.{ComesTo, IsAsShown, SleepsAtPipe, SleepsFor}
 use Rattle.shown_runs.specs.ShownRuns.{SleepsForPartner, StandsSo, WaitsAtPipe, spot_of}
-use Rattle.shown_runs.proofs.Acts.{Reached, SuchSystem}
+use Rattle.shown_runs.proofs.Plain.{arrived, plain_of}
+use Rattle.shown_runs.proofs.ReachedRuns.{RunTo}
+use Rattle.shown_runs.specs.ShownRuns as shown
+use Rattle.shown_runs.proofs.Lifting.{lift, lifted, lifts_arrived, lifts_call, state_as}
+use Rattle.shown_runs.proofs.Lifting.{timed_such}
 use Rattle.shown_runs.proofs.Piped.{IsOf, of_no_member, of_no_seat}
 use Rattle.shown_runs.proofs.Quiet.{IsAsleep, IsIdle, IsMeeting, Placed, Quiet, Rests, StandsBy}
 use Rattle.shown_runs.proofs.Quiet.{WasTold, is_meeting, meeting, place_at, rendez, sema_at}
-use Rattle.shown_runs.proofs.Quiet.{such_calls}
 use Rattle.shown_runs.proofs.Quiet.WasTold.{ToRead, ToWrite}
 use Rattle.shown_runs.proofs.Seen.{seen, seen_by}
 use Rattle.shown_runs.proofs.Settling.{Settled, SleepsHere, WaitsIn, none_told, waits_of}
-
--- ---- the run of a schedule
-
-module _ {At Request Reply Out Object : Type 0} (system : System At Request Reply Out Object) where
-  -- a schedule without those who did nothing comes to the same position
-  same_position : (movers : List ℕ)
-      → runs.position_of system (makers_of (run_of system movers)) ≡ runs.position_of system movers
-  same_position [] = refl
-  same_position (pid ∷ movers) =
-      by (same_position movers) (act_of system (runs.position_of system movers) pid) refl
-    where
-      by : runs.position_of system (makers_of (run_of system movers))
-          ≡ runs.position_of system movers
-          → (act : Option (Act Request Reply))
-          → act_of system (runs.position_of system movers) pid ≡ act
-          → runs.position_of system (makers_of (with_step pid act (run_of system movers)))
-          ≡ acted system (runs.position_of system movers) pid
-          (act_of system (runs.position_of system movers) pid)
-      by same None is =
-          same ∙ sym (ap (acted system (runs.position_of system movers) pid) is)
-      by same (Some act) is =
-          ap (λ (p : runs.Position system). acted system p pid (act_of system p pid)) same
-
-  -- where a process is
-  abbrev own_at : runs.Position system → ℕ → OwnState system.machine
-  own_at at pid = record { at = state_of system at pid; stage = phase_of at.world pid }
-
--- a run that leaves each process, and the world, as the position has them
-pub record RunTo {At Request Reply Out Object : Type 0}
-    (such : SuchSystem At Request Reply Out Object) (at : runs.Position such.system) : Type 0 where
-  -- the steps of the run, newest first
-  pub run : List (Step Request Reply)
-  -- they are those of the library's calls
-  pub of : IsOfCalls such.system run
-  -- each request got such a reply
-  pub asked : AreAskedSo such.comes run
-  -- each process is where the position has it
-  pub own : (pid : ℕ) → own_in such.system pid run
-      ≡ record { at = state_of such.system at pid; stage = phase_of at.world pid }
-  -- the world is that of the position
-  pub world : world_at such.system run ≡ at.world
-
--- Some run comes to each position that a schedule comes to.
-pub run_to : {At Request Reply Out Object : Type 0}
-    (such : SuchSystem At Request Reply Out Object) (at : runs.Position such.system)
-    → Reached such at → RunTo such at
-run_to such at reached =
-    let both = schedules_are_runs such.system reached.movers reached.below in
-    let so = played_so such.system (run_of such.system reached.movers) both.0 in
-    let same = same_position such.system reached.movers ∙ reached.is in
-    record {
-      run = run_of such.system reached.movers;
-      of = both.0;
-      asked = reached.asked;
-      own = λ pid. so.tracks.own pid
-          ∙ ap (λ (p : runs.Position such.system). own_at such.system p pid) same;
-      world = sym both.1.world ∙ ap (λ (p : runs.Position such.system). p.world) reached.is;
-    }
 
 -- ---- a position that is quiet
 
@@ -108,27 +55,48 @@ get_low (y ∷ xs) (suc i) x there = let low = get_low xs i x there in omega ari
 
 module _ (program : Program) (given : Spot → Given) (objects : Objects)
     (are : AreItsObjects program objects) (q : Queued) (most : ℕ)
-    (ways : List Bool) (at : runs.Position (library_of program given objects))
+    (ways : List Bool) (at : runs.Position (plain_of program given objects))
     (quiet : Quiet program given objects (seen none_told q) most ways at) (count : ℕ)
-    (next : runs.Position (library_of program given objects))
+    (next : runs.Position (plain_of program given objects))
     (settled : Settled program given objects are q most ways at quiet count next)
-    (to : RunTo (such_calls program given objects) next) where
-  -- the run leaves a process where the position has it
+    (to : RunTo (timed_such program given objects) (lift program given objects next)) where
+  -- the run leaves a process where the position has it, with the clock
   pub state_after : (pid : ℕ) (state : ProgramState Spot ObjectCall)
-      → state_of (library_of program given objects) next pid ≡ state
-      → (own_in (library_of program given objects) pid to.run).at ≡ state
+      → state_of (plain_of program given objects) next pid ≡ state
+      → (own_in (timed_library_of program given objects) pid to.run).at
+      ≡ lifted program given objects state
   state_after pid state is =
-      ap (λ (o : OwnState (library_of program given objects).machine). o.at) (to.own pid) ∙ is
+      ap (λ (o : OwnState (timed_library_of program given objects).machine). o.at) (to.own pid)
+      ∙ (state_as program given objects next pid ∙ ap (lifted program given objects) is)
+
+  -- and so one that is at a place
+  pub at_place_after : (pid place : ℕ)
+      → state_of (plain_of program given objects) next pid
+      ≡ arrived program given objects pid place
+      → (own_in (timed_library_of program given objects) pid to.run).at
+      ≡ shown.arrived program given objects pid place
+  at_place_after pid place is =
+      state_after pid _ is ∙ lifts_arrived program given objects pid place
+
+  -- and one that is in a call that is no tick
+  pub in_call_after : (pid place : ℕ) (at : ObjectCall) (line : Line)
+      → slice_get program.lines place ≡ Some line → is_tick line.call ≡ false
+      → state_of (plain_of program given objects) next pid ≡ In (spot_of pid place) at
+      → (own_in (timed_library_of program given objects) pid to.run).at
+      ≡ In (spot_of pid place) (Plain at)
+  in_call_after pid place at line line_is no_tick is =
+      state_after pid _ is ∙ lifts_call program given objects pid place at line line_is no_tick
 
   -- and in the phase that the world has
   pub stage_after : (pid : ℕ) (stage : Phase) → phase_of next.world pid ≡ stage
-      → (own_in (library_of program given objects) pid to.run).stage ≡ stage
+      → (own_in (timed_library_of program given objects) pid to.run).stage ≡ stage
   stage_after pid stage is =
-      ap (λ (o : OwnState (library_of program given objects).machine). o.stage) (to.own pid) ∙ is
+      ap (λ (o : OwnState (timed_library_of program given objects).machine). o.stage) (to.own pid)
+      ∙ is
 
   -- its notes are those of the lines, and it has no mark
   pub flags_after : (pid : ℕ) → pid < procs_of program
-      → flags_of (world_at (library_of program given objects) to.run) pid
+      → flags_of (world_at (timed_library_of program given objects) to.run) pid
       ≡ record { wake = false; notes = q.notes pid }
   flags_after pid low =
       ap (λ (w : State). flags_of w pid) to.world
@@ -137,25 +105,25 @@ module _ (program : Program) (given : Spot → Given) (objects : Objects)
   -- whoever was not blocked is where it was
   pub state_still : (pid : ℕ) (state : ProgramState Spot ObjectCall)
       → q.waits pid ≢ Stays Blocks
-      → state_of (library_of program given objects) at pid ≡ state
-      → (own_in (library_of program given objects) pid to.run).at ≡ state
-  state_still pid state other is =
-      state_after pid state (settled.states pid (λ less. other) ∙ is)
+      → state_of (plain_of program given objects) at pid ≡ state
+      → state_of (plain_of program given objects) next pid ≡ state
+  state_still pid state other is = settled.states pid (λ less. other) ∙ is
 
   -- and in the phase in which it was
   pub stage_still : (pid : ℕ) (stage : Phase) → q.waits pid ≢ Stays Blocks
       → phase_of at.world pid ≡ stage
-      → (own_in (library_of program given objects) pid to.run).stage ≡ stage
+      → (own_in (timed_library_of program given objects) pid to.run).stage ≡ stage
   stage_still pid stage other is =
       stage_after pid stage (settled.phases pid (λ less. other) ∙ is)
 
   level_after : (k : ℕ)
-      → level_of (world_at (library_of program given objects) to.run) k ≡ level_of at.world k
+      → level_of (world_at (timed_library_of program given objects) to.run) k ≡ level_of at.world k
   level_after k = ap (λ (w : State). level_of w k) to.world ∙ settled.levels k
 
   -- in a Rendez of no direction the same process is posted
   posted_after : (k : ℕ) → ((pipe n : ℕ) → IsOf program given objects pipe n → n ≢ k)
-      → posted_of (world_at (library_of program given objects) to.run) k ≡ posted_of at.world k
+      → posted_of (world_at (timed_library_of program given objects) to.run) k
+      ≡ posted_of at.world k
   posted_after k apart = ap (λ (w : State). posted_of w k) to.world ∙ by (settled.posted k)
     where
       by : (posted_of next.world k ≡ posted_of at.world k)
@@ -173,7 +141,8 @@ module _ (program : Program) (given : Spot → Given) (objects : Objects)
   partner_after pid tag low other meets placed =
       record {
         number = (place_at program given objects at pid).meetings;
-        at = state_still pid _ other meets.state_is;
+        at = in_call_after pid (q.place pid) _ meets.line meets.line_is (ap is_tick meets.made)
+            (state_still pid _ other meets.state_is);
         asleep = stage_still pid _ other meets.phase_is;
         posted = posted_after (meeting program given objects pid)
             (of_no_member program given objects are pid low) ∙ placed.posted;
@@ -192,7 +161,8 @@ module _ (program : Program) (given : Spot → Given) (objects : Objects)
   unit_after pid sema low other asleep rests =
       record {
         number = grants_of (sema_at program given objects at sema) pid;
-        at = state_still pid _ other asleep.state_is;
+        at = in_call_after pid (q.place pid) _ asleep.line asleep.line_is (ap is_tick asleep.made)
+            (state_still pid _ other asleep.state_is);
         asleep = stage_still pid _ other asleep.phase_is;
         posted = posted_after (rendez program given objects sema pid)
             (of_no_seat program given objects are sema pid asleep.low low)
@@ -205,7 +175,7 @@ module _ (program : Program) (given : Spot → Given) (objects : Objects)
       }
 
   -- what a process sleeps for that was told to wait
-  told_sleeps : {pid : ℕ} {line : Line} {pipe number : ℕ} {rendez_is : RendezId}
+  pub told_sleeps : {pid : ℕ} {line : Line} {pipe number : ℕ} {rendez_is : RendezId}
       (made : CallState)
       → WasTold program given objects (spot_of pid (q.place pid)) line pipe number rendez_is made
       → object_does objects (AtPipe pipe made) ≡ Next.Sleep rendez_is number
@@ -215,6 +185,14 @@ module _ (program : Program) (given : Spot → Given) (objects : Objects)
   told_sleeps {pid} {line} {pipe} {number} made (ToWrite bytes is rendez_same at_is) =
       ap (λ (c : CallState). object_does objects (AtPipe pipe c)) at_is
       ∙ ap (λ (r : RendezId). Next.Sleep r number) (sym rendez_same)
+
+  -- its call is no tick
+  pub told_no_tick : {pid : ℕ} {line : Line} {pipe number : ℕ} {rendez_is : RendezId}
+      (made : CallState)
+      → WasTold program given objects (spot_of pid (q.place pid)) line pipe number rendez_is made
+      → is_tick line.call ≡ false
+  told_no_tick made (ToRead room is rendez_same at_is) = ap is_tick is
+  told_no_tick made (ToWrite bytes is rendez_same at_is) = ap is_tick is
 
   -- one that waits at a direction
   pipe_after : (pid : ℕ) → pid < procs_of program
@@ -226,7 +204,8 @@ module _ (program : Program) (given : Spot → Given) (objects : Objects)
         number = sleeps.number;
         rendez = sleeps.rendez_is;
         made = sleeps.made;
-        at = state_after pid _ sleeps.state_is;
+        at = in_call_after pid (q.place pid) _ sleeps.line sleeps.line_is
+            (told_no_tick sleeps.made sleeps.told) sleeps.state_is;
         sleeps = told_sleeps sleeps.made sleeps.told;
         asleep = stage_after pid _ sleeps.phase_is;
         posted = ap (λ (w : State). posted_of w sleeps.rendez_is.0) to.world ∙ sleeps.posted;
@@ -251,8 +230,8 @@ module _ (program : Program) (given : Spot → Given) (objects : Objects)
       by_count is idle false settles =
           let behind : count ≤ pid = grind (arith, nat_tests) in
           inl (record {
-            at = state_after pid _ (settled.states pid (λ less. absurd (omega arith))
-                ∙ idle.state_is);
+            at = at_place_after pid (q.place pid)
+                (settled.states pid (λ less. absurd (omega arith)) ∙ idle.state_is);
             idle = stage_after pid _ (settled.phases pid (λ less. absurd (omega arith))
                 ∙ idle.phase_is);
           })
@@ -265,8 +244,8 @@ module _ (program : Program) (given : Spot → Given) (objects : Objects)
           (record (process_of q pid) { standing = stands_by q.line pid waits }).standing
       by Free idle rests is =
           record {
-            at = state_still pid _ (λ blocks. let both : Free ≡ Stays Blocks = sym is ∙ blocks in
-                cc) idle.state_is;
+            at = at_place_after pid (q.place pid) (state_still pid _ (λ blocks.
+                let both : Free ≡ Stays Blocks = sym is ∙ blocks in cc) idle.state_is);
             idle = stage_still pid _ (λ blocks. let both : Free ≡ Stays Blocks = sym is ∙ blocks in
                 cc) idle.phase_is;
           }
@@ -285,8 +264,9 @@ module _ (program : Program) (given : Spot → Given) (objects : Objects)
             writer = (given (spot_of pid (q.place pid))).writer;
             bytes = replicate put.bytes 0;
             number = put.number;
-            at = state_still pid _ (λ blocks.
-                let both : Stays Wrote ≡ Stays Blocks = sym is ∙ blocks in cc) put.state_is;
+            at = in_call_after pid (q.place pid) _ put.line put.line_is (ap is_tick put.made)
+                (state_still pid _ (λ blocks.
+                let both : Stays Wrote ≡ Stays Blocks = sym is ∙ blocks in cc) put.state_is);
             awake = stage_still pid _ (λ blocks.
                 let both : Stays Wrote ≡ Stays Blocks = sym is ∙ blocks in cc) put.phase_is;
           }

@@ -2,8 +2,8 @@
 -- them waits where it is not at the head of its loop.
 use Rattle.std.proofs.Common.{◌≡◌, ◌≢◌, ℕ, zero, suc, ◌+◌, ◌-◌, ◌<◌, ◌==◌}
 use Rattle.std.proofs.Common.{Bool, if◌then◌else◌, true, false, not, ◌&&◌, Option, Some, None}
-use Rattle.std.proofs.Common.{List, nat_lt, refl, sym, ap, ◌∙◌, arith}
-use Rattle.std.specs.Prelude.{slice_get}
+use Rattle.std.proofs.Common.{nat_lt, refl, sym, ap, ◌∙◌, subst, arith}
+use Rattle.std.specs.Prelude.{is_none, slice_get}
 use Rattle.std.proofs.lemmas.Bool.Decides.{nat_tests}
 use Rattle.searches.specs.declared.status.Status.TheVariants as status
 use Rattle.searches.specs.Stuck.{goes_on, has_ended, is_stuck, some_below}
@@ -20,11 +20,12 @@ use Rattle.calls.specs.Position.{is_answered, status_of}
 use Rattle.calls.specs.Position.{status_of_one, turning_at, turning_of_one}
 use Rattle.calls.specs.Program.{Program, procs_of}
 use Rattle.calls.specs.Timers.{is_early}
-use Rattle.explored_calls.proofs.ExplorerSteps.{begins_ready, waits_ready}
+use Rattle.explored_calls.specs.LibraryCalls.{TicksSo}
+use Rattle.explored_calls.proofs.ExplorerSteps.{begins_ready, none_due, waits_ready}
 use Rattle.explored_calls.proofs.Queued.{Halt, Queued, Shows, process_of}
 use Rattle.explored_calls.proofs.Queued.Amid.{Blocks, ReadsOn, Wrote}
 use Rattle.explored_calls.proofs.Queued.Halt.{For, Free, Stays}
-use Rattle.shown_runs.specs.ShownRuns.{AreShownCalls, IsShownCall}
+use Rattle.shown_runs.specs.ShownRuns.{AreShownCalls}
 
 -- a number below the bound that passes the test
 pub record IsFound (test : ℕ → Bool) (bound : ℕ) : Type 0 where
@@ -68,12 +69,6 @@ both_so : (one other : Bool) → (one && not other) ≡ true → (one ≡ true) 
 both_so true true is = cc
 both_so true false is = (refl, refl)
 both_so false other is = cc
-
--- a call that is shown does not rest by itself
-never_early : (program : Program) (processes : List Process) (made : Call)
-    → IsShownCall program made → is_early processes made ≡ false
-never_early program processes (call.Ticks now) shown = absurd shown
-never_early program processes made shown = refl
 
 module _ (program : Program) (shown : AreShownCalls program) (q : Queued) (at : Position)
     (shows : Shows (procs_of program) q at)
@@ -131,11 +126,25 @@ module _ (program : Program) (shown : AreShownCalls program) (q : Queued) (at : 
     -- and the call would find nothing
     pub unanswered : is_answered program at line.call ≡ false
 
+  -- or ticks for ever, and no timer is due
+  pub record TicksThere (pid : ℕ) : Type 0 where
+    -- the line of its tick
+    pub line : Line
+    -- its place has that line in the program
+    pub line_is : slice_get program.lines (q.place pid) ≡ Some line
+    -- it is about to tick
+    pub waits : q.waits pid ≡ Free
+    -- the moment of its tick
+    pub now : ℕ
+    -- it ticks for ever at that moment
+    pub is : line.call ≡ call.Ticks now
+
   -- one of these each process is
   pub data HowStopped (pid : ℕ) : Type 0 where
     IsOver : HasEndedAt pid → HowStopped pid
     IsInLine : WaitsAt pid → HowStopped pid
     IsBlocked : BlocksAt pid → HowStopped pid
+    IsTicking : TicksThere pid → HowStopped pid
 
   -- a number of a process is one of a mover that goes on
   below : (pid : ℕ) → pid < procs_of program → nat_lt pid (procs_of program) ≡ true
@@ -163,12 +172,23 @@ module _ (program : Program) (shown : AreShownCalls program) (q : Queued) (at : 
       by_line None is = IsOver (record { none = is })
       by_line (Some line) is = by_wait (q.waits pid) refl
         where
-          by_wait : (waits : Halt) → q.waits pid ≡ waits → HowStopped pid
-          by_wait Free none =
+          by_call : (made : Call) → line.call ≡ made → q.waits pid ≡ Free → HowStopped pid
+          by_call (call.Ticks now) made none =
+              IsTicking (record {
+                line = line;
+                line_is = is;
+                waits = none;
+                now = now;
+                is = made;
+              })
+          by_call other made none =
               absurd (not_ready pid (omega arith)
               (begins_ready program q at shows pid line
               (record { low = low; line_is = is; waits = none })
-              (never_early program at.processes line.call (shown (q.place pid) line is))))
+              (ap (is_early at.processes) made)))
+
+          by_wait : (waits : Halt) → q.waits pid ≡ waits → HowStopped pid
+          by_wait Free none = by_call line.call refl none
           by_wait (Stays Wrote) wrote = absurd (none_wrote pid low line is wrote)
           by_wait (Stays (ReadsOn room)) reads =
               absurd (not_ready pid (omega arith)
@@ -334,6 +354,20 @@ module _ (program : Program) (shown : AreShownCalls program) (q : Queued) (at : 
                   let none = ended.none in
                   absurd (let yes_ended : has_ended (status_of program at found.n) ≡ true =
                   ap has_ended (sym status_is) ∙ rw none refl in
+                  let no_ended = not_ended in
+                  cc)
+              by_kind (IsTicking ticks) =
+                  let so = subst (TicksSo (q.place found.n) ticks.line) ticks.is
+                  (shown.ticks (q.place found.n) ticks.line ticks.line_is) in
+                  let served = so.1 in
+                  let line_is = ticks.line_is in
+                  let free = ticks.waits in
+                  let early : is_early at.processes ticks.line.call ≡ true =
+                  ap (is_early at.processes) ticks.is
+                  ∙ ap (λ due. is_none due)
+                  (none_due ticks.now (procs_of program) q at.processes shows.processes) in
+                  absurd (let yes_ended : has_ended (status_of program at found.n) ≡ true =
+                  ap has_ended (sym status_is) ∙ rw (line_is, free, served, early) refl in
                   let no_ended = not_ended in
                   cc)
               by_kind (IsInLine waits) =

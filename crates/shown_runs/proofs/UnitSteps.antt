@@ -29,13 +29,14 @@ use Rattle.object_machines.specs.ObjectCalls.ObjectCall.{AtSema}
 use Rattle.object_machines.specs.ObjectCalls.ObjectReply.{BySema}
 use Rattle.object_machines.specs.ObjectCalls.ObjectRequest.{OfSema}
 use Rattle.object_machines.specs.ObjectEnds.{is_sema_unworn}
-use Rattle.explored_calls.specs.LibraryCalls.{AreItsObjects, Given, Spot, library_of}
+use Rattle.explored_calls.specs.LibraryCalls.{AreItsObjects, Given, Spot}
 use Rattle.explored_calls.proofs.ExplorerSteps.{gone_with, units_of}
 use Rattle.explored_calls.proofs.Queued.{Queued, gone}
 use Rattle.explored_calls.proofs.UnitFacts
 use Rattle.explored_calls.proofs.UnitFacts.{Answered}
 use Rattle.explored_calls.proofs.Queued.Halt.{Free}
-use Rattle.shown_runs.specs.ShownRuns.{arrived, spot_of}
+use Rattle.shown_runs.specs.ShownRuns.{spot_of}
+use Rattle.shown_runs.proofs.Plain.{arrived, plain_of}
 use Rattle.shown_runs.proofs.CallSteps.{at_call, at_else, at_self, goes_by_request, leads_to}
 use Rattle.shown_runs.proofs.CallSteps.{rests_of}
 use Rattle.shown_runs.proofs.Quiet.{Quiet, sema_at}
@@ -43,7 +44,7 @@ use Rattle.shown_runs.proofs.QuietSteps.{ComesQuiet}
 
 module _ (program : Program) (given : Spot → Given) (objects : Objects)
     (are : AreItsObjects program objects) (q : Queued) (most : ℕ) (ways : List Bool)
-    (at : Position (library_of program given objects))
+    (at : Position (plain_of program given objects))
     (quiet : Quiet program given objects q most ways at) (pid : ℕ) (low : pid < procs_of program)
     (line : Line) (line_is : slice_get program.lines (q.place pid) ≡ Some line)
     (none : q.waits pid ≡ Free) (sema : ℕ) (there : sema < length program.values) where
@@ -67,8 +68,8 @@ module _ (program : Program) (given : Spot → Given) (objects : Objects)
       → arrived program given objects pid (q.place pid) ≡ state
       → Answered (sema_at program given objects at sema) hold (UnitFacts.alone reply.Acquired)
       (UnitFacts.taken_from (sema_at program given objects at sema))
-      → (library_of program given objects).machine.does state ≡ Next.Ask (OfSema sema hold)
-      → (library_of program given objects).machine.goes_on state
+      → (plain_of program given objects).machine.does state ≡ Next.Ask (OfSema sema hold)
+      → (plain_of program given objects).machine.goes_on state
       (Outcome.Replied (BySema (UnitFacts.alone reply.Acquired)))
       ≡ arrived program given objects pid to
       → ComesQuiet program given objects are (gone_with q sema pid to) (suc most) ways
@@ -108,8 +109,8 @@ module _ (program : Program) (given : Spot → Given) (objects : Objects)
       → arrived program given objects pid (q.place pid) ≡ state
       → Answered (sema_at program given objects at sema) hold told
       (sema_at program given objects at sema) → is_sema_unworn told.first ≡ true
-      → (library_of program given objects).machine.does state ≡ Next.Ask (OfSema sema hold)
-      → (library_of program given objects).machine.goes_on state (Outcome.Replied (BySema told))
+      → (plain_of program given objects).machine.does state ≡ Next.Ask (OfSema sema hold)
+      → (plain_of program given objects).machine.goes_on state (Outcome.Replied (BySema told))
       ≡ arrived program given objects pid to
       → ComesQuiet program given objects are (gone q pid to) (suc most) ways
   leaves_alone hold told to state is answered unworn does goes =

@@ -32,7 +32,8 @@ use Rattle.calls.specs.declared.process.Timer.TheVariants as timer
 use Rattle.calls.specs.declared.process.Want.TheVariants as want
 use Rattle.calls.specs.Machine.{system_of}
 use Rattle.calls.specs.Program.{Program}
-use Rattle.call_machines.specs.Ends.{HasStopped}
+use Rattle.call_machines.specs.IdleRuns.{HasStoppedIdle}
+use Rattle.call_machines.specs.Programs.{MayIdleIn}
 use Rattle.call_machines.specs.Runs.{IsOfCalls, procs}
 use Rattle.call_machines.specs.Schedules.{run_of}
 use Rattle.call_machines.proofs.ScheduleLemmas.{schedules_are_runs}
@@ -40,7 +41,11 @@ use Rattle.pipe_machines.specs.PipeRuns.CallState.{Reads}
 use Rattle.pipe_machines.specs.ReadMachine.{FillState}
 use Rattle.pipe_machines.specs.Tries.TryState.{Tries}
 use Rattle.object_machines.specs.ObjectCalls.{Objects}
-use Rattle.explored_calls.specs.LibraryCalls.{Given, Spot, library_of}
+use Rattle.timer_list.specs.declared.timer_object.TimerCall.TheVariants.{Expire}
+use Rattle.timer_machines.specs.Requests.TimedRequest.{ToTimers}
+use Rattle.timed_machines.specs.TimedEnds.{IsTick}
+use Rattle.explored_calls.specs.LibraryCalls.{Given, Spot, TicksSo}
+use Rattle.explored_calls.specs.TimedLibrary.{timed_library_of}
 use Rattle.shown_runs.specs.ShownRuns.{AreFewSteps, ComesToNever, HasPut, IsAsShown, IsAtPlace}
 use Rattle.shown_runs.specs.ShownRuns.{IsShownCall, LibraryStep, SleepsAtPipe, SleepsFor}
 use Rattle.shown_runs.specs.ShownRuns.{SleepsForPartner, WaitsAtPipe, shown_at, with_choices}
@@ -92,6 +97,18 @@ meeting =
 abbrev forked : Program
 forked =
     program_of (line_to call.Choose 9 1 ∷ line_to call.Never 9 9 ∷ []) (0 ∷ 9 ∷ [])
+
+-- a line at which a process ticks for ever, at this place
+abbrev ticks_line : ℕ → Line
+ticks_line place = record (line_to (call.Ticks 5) place place) { is_served = true }
+
+-- the first ticks once, and the second for ever
+abbrev ticking : Program
+ticking = program_of (line_to (call.Tick 5) 9 8 ∷ ticks_line 1 ∷ []) (0 ∷ 1 ∷ [])
+
+-- the first acquires, and the second ticks for ever
+abbrev clocked : Program
+clocked = program_of (line_to (call.Acquire 0 None) 9 8 ∷ ticks_line 1 ∷ []) (0 ∷ 1 ∷ [])
 
 -- the same lines, with a direction of a pipe for one write, read so
 abbrev piped_of : Mode → List Line → List ℕ → Program
@@ -193,6 +210,13 @@ it_turns_away = refl
 it_reaches : (shown_at forked (0 ∷ 2 ∷ [])).course ≡ course.Reached
 it_reaches = refl
 
+it_has_ticked : (shown_at ticking (0 ∷ [])).processes ≡ stands_at 9 ∷ stands_at 1 ∷ []
+it_has_ticked = refl
+
+-- a process that ticks for ever helps nobody who waits
+it_waits_by_the_clock : is_stuck (system_of clocked) (shown_at clocked (0 ∷ [])) ≡ true
+it_waits_by_the_clock = refl
+
 -- ---- which calls
 
 with_a_deadline : IsShownCall two (call.Acquire 0 (Some 5)) ≡ ⊥
@@ -215,6 +239,12 @@ of_a_stream is = cc
 
 nor_tried : IsShownCall streams (call.TryRead 0 1) → ⊥
 nor_tried is = cc
+
+ticks_on : TicksSo 1 (ticks_line 1) (call.Ticks 5)
+ticks_on = (refl, refl)
+
+ticks_elsewhere : TicksSo 1 (line_to (call.Ticks 5) 9 9) (call.Ticks 5) → ⊥
+ticks_elsewhere so = let leads : 9 ≡ 1 = so.0 in omega arith
 
 few : AreFewSteps two (1 ∷ 0 ∷ [])
 few = record { grants = omega arith; writes = λ some. omega arith }
@@ -278,14 +308,16 @@ module _ (lock : Locked SemaState SemaCall SemaReply)
   -- the run that a schedule of the processes plays
   abbrev run : Program → List Bool → List ℕ → List LibraryStep
   run program ways movers =
-      run_of (library_of program given (with_choices objects ways)) movers
+      run_of (timed_library_of program given (with_choices objects ways)) movers
 
   is_of_calls : (program : Program) (ways : List Bool) (movers : List ℕ)
-      → AllByRecursion (λ pid. pid < procs (library_of program given (with_choices objects ways)))
-      movers
-      → IsOfCalls (library_of program given (with_choices objects ways)) (run program ways movers)
+      → AllByRecursion
+      (λ pid. pid < procs (timed_library_of program given (with_choices objects ways))) movers
+      → IsOfCalls (timed_library_of program given (with_choices objects ways))
+      (run program ways movers)
   is_of_calls program ways movers below =
-      (schedules_are_runs (library_of program given (with_choices objects ways)) movers below).0
+      (schedules_are_runs (timed_library_of program given (with_choices objects ways)) movers
+      below).0
 
   -- ---- a wait, and a release
 
@@ -397,11 +429,37 @@ module _ (lock : Locked SemaState SemaCall SemaReply)
   both_sleep = 1 ∷ 1 ∷ 1 ∷ 0 ∷ 0 ∷ 0 ∷ []
 
   -- each is parked
-  have_stopped : HasStopped (library_of stuck given (with_choices objects []))
-      (run stuck [] both_sleep)
-  have_stopped zero low = inr (Look (record { 0 = 0 }), refl, refl)
-  have_stopped (suc zero) low = inr (Look (record { 0 = 1 }), refl, refl)
+  have_stopped : HasStoppedIdle (timed_library_of stuck given (with_choices objects []))
+      (MayIdleIn IsTick) (run stuck [] both_sleep)
+  have_stopped zero low = inr (inl (Look (record { 0 = 0 }), refl, refl))
+  have_stopped (suc zero) low = inr (inl (Look (record { 0 = 1 }), refl, refl))
   have_stopped (suc (suc pid)) low = absurd (let less : suc (suc pid) < 2 = low in omega arith)
+
+  -- ---- ticks
+
+  -- a tick is one request, which finds no timer
+  has_ticked : IsAsShown ticking given (with_choices objects []) (run ticking [] (0 ∷ [])) 0
+      (stands_at 9)
+  has_ticked = record { stands = record { at = refl; idle = refl }; notes = refl }
+
+  -- one that ticks for ever is where it was
+  ticks_again : IsAsShown ticking given (with_choices objects [])
+      (run ticking [] (1 ∷ 1 ∷ 0 ∷ [])) 1 (stands_at 1)
+  ticks_again = record { stands = record { at = refl; idle = refl }; notes = refl }
+
+  -- so the run has stopped but for that one
+  but_for_ticks : HasStoppedIdle (timed_library_of clocked given (with_choices objects []))
+      (MayIdleIn IsTick) (run clocked [] (0 ∷ 0 ∷ 0 ∷ []))
+  but_for_ticks zero low = inr (inl (Look (record { 0 = 0 }), refl, refl))
+  but_for_ticks (suc zero) low =
+      inr (inr (record {
+        may = tt;
+        request = ToTimers (Expire 5);
+        asks = refl;
+        stays = refl;
+        again = refl;
+      }))
+  but_for_ticks (suc (suc pid)) low = absurd (let less : suc (suc pid) < 2 = low in omega arith)
 
   -- ---- a way that is never to be gone
 
@@ -447,7 +505,7 @@ module _ (lock : Locked SemaState SemaCall SemaReply)
 
   -- the run that a schedule of the processes plays there
   abbrev there_run : Program → List ℕ → List LibraryStep
-  there_run program movers = run_of (library_of program given piped) movers
+  there_run program movers = run_of (timed_library_of program given piped) movers
 
   -- the reader asks, posts itself and tests the level: then it sleeps
   reader_sleeps : SleepsAtPipe sends given piped (there_run sends (0 ∷ 0 ∷ 0 ∷ [])) 0 0
@@ -522,8 +580,9 @@ module _ (lock : Locked SemaState SemaCall SemaReply)
   finds_the_end = record { stands = record { at = refl; idle = refl }; notes = refl }
 
   -- Where nobody writes the reader is parked.
-  reads_for_ever : HasStopped (library_of reads given piped) (there_run reads (0 ∷ 0 ∷ 0 ∷ []))
-  reads_for_ever zero low = inr (Look (record { 0 = 0 }), refl, refl)
+  reads_for_ever : HasStoppedIdle (timed_library_of reads given piped) (MayIdleIn IsTick)
+      (there_run reads (0 ∷ 0 ∷ 0 ∷ []))
+  reads_for_ever zero low = inr (inl (Look (record { 0 = 0 }), refl, refl))
   reads_for_ever (suc zero) low = inl tt
   reads_for_ever (suc (suc pid)) low =
       absurd (let less : suc (suc pid) < 2 = low in omega arith)

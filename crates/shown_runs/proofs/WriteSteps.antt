@@ -39,7 +39,7 @@ use Rattle.object_machines.specs.ObjectCalls.{pipe_at}
 use Rattle.object_machines.specs.ObjectCalls.ObjectCall.{AtPipe}
 use Rattle.object_machines.specs.ObjectCalls.ObjectReply.{ByPipe}
 use Rattle.object_machines.specs.ObjectCalls.ObjectRequest.{OfPipe}
-use Rattle.explored_calls.specs.LibraryCalls.{AreItsObjects, Given, Spot, library_of}
+use Rattle.explored_calls.specs.LibraryCalls.{AreItsObjects, Given, Spot}
 use Rattle.explored_calls.proofs.Directions.{shown, writes_many}
 use Rattle.explored_calls.proofs.Lists.{at_one}
 use Rattle.explored_calls.proofs.PipePhases.{IsQuiet, PipeFits, PipesFit, put_in}
@@ -47,7 +47,8 @@ use Rattle.explored_calls.proofs.PipesMoved as moved
 use Rattle.explored_calls.proofs.Queued.{Halt, Queued}
 use Rattle.explored_calls.proofs.Queued.Amid.{Blocks, Wrote}
 use Rattle.explored_calls.proofs.Queued.Halt.{Free, Stays as IsAmid}
-use Rattle.shown_runs.specs.ShownRuns.{arrived, spot_of}
+use Rattle.shown_runs.specs.ShownRuns.{spot_of}
+use Rattle.shown_runs.proofs.Plain.{arrived, plain_of}
 use Rattle.shown_runs.proofs.CallSteps.{at_call, begins, in_library, known_idle, leads_to}
 use Rattle.shown_runs.proofs.Piped.{AreDue, arrived_quiet, at_pipe_quiet, direction_at, of_world}
 use Rattle.shown_runs.proofs.Piped.{reader_of}
@@ -66,7 +67,7 @@ IsFresh program most = (most < LAST_GRANT) × (0 < length program.pipes → most
 
 module _ (program : Program) (given : Spot → Given) (objects : Objects)
     (are : AreItsObjects program objects) (q : Queued) (most : ℕ) (ways : List Bool)
-    (at : Position (library_of program given objects))
+    (at : Position (plain_of program given objects))
     (quiet : Quiet program given objects q most ways at) (pid : ℕ) (low : pid < procs_of program)
     (line : Line) (line_is : slice_get program.lines (q.place pid) ≡ Some line) (pipe : ℕ)
     (there : pipe < length program.pipes) (x : Direction)
@@ -77,7 +78,7 @@ module _ (program : Program) (given : Spot → Given) (objects : Objects)
   d = direction_at program given objects at pipe
 
   abbrev fit : PipeFits objects program (direction_at program given objects at pipe)
-      (λ (n : ℕ). state_of (library_of program given objects) at n) q.pipes pipe
+      (λ (n : ℕ). state_of (plain_of program given objects) at n) q.pipes pipe
   fit = quiet.piped.fits.each pipe there
 
   -- the explorer has it so
@@ -123,7 +124,7 @@ module _ (program : Program) (given : Spot → Given) (objects : Objects)
         (known_idle program given objects are q most ways at quiet pid low none 0 _
         (at_call program given objects pid (q.place pid) line _ line_is made)) refl
 
-    was_quiet : IsQuiet objects (state_of (library_of program given objects) at pid)
+    was_quiet : IsQuiet objects (state_of (plain_of program given objects) at pid)
     was_quiet =
         quiet_by program given objects at pid (q.place pid) Free tt
         (subst (λ (w : Halt). StandsBy program given objects at pid (q.place pid) w) none
@@ -135,7 +136,7 @@ module _ (program : Program) (given : Spot → Given) (objects : Objects)
         ≡ told)
         (unworn : is_pipe_unworn (told_put told) ≡ true) where
       asked : Goes (such_calls program given objects) pid no_row (record {
-        state = (library_of program given objects).machine.goes_on (in_write PutState.Putting)
+        state = (plain_of program given objects).machine.goes_on (in_write PutState.Putting)
             (Outcome.Replied (ByPipe (told_put told)));
         flags = record { wake = false; notes = q.notes pid };
         object = record at.object {
@@ -152,7 +153,7 @@ module _ (program : Program) (given : Spot → Given) (objects : Objects)
                 (given (spot_of pid (q.place pid))).writer (replicate bytes 0) r);
           }) told_is)
           (goes_as (such_calls program given objects) pid no_row _ at _
-          (ap (λ (r : QueueReply). (library_of program given objects).machine.goes_on
+          (ap (λ (r : QueueReply). (plain_of program given objects).machine.goes_on
           (in_write PutState.Putting) (Outcome.Replied (ByPipe (told_put r)))) told_is)
           (goes_asked (such_calls program given objects) pid no_row _ at began
           (in_library program given objects pid low)
@@ -395,7 +396,7 @@ module _ (program : Program) (given : Spot → Given) (objects : Objects)
                   (last_number (direction_at program given objects at pipe).kept + 1))))
                   (at_one pid (in_write (PutState.Standing
                   (last_number (direction_at program given objects at pipe).kept + 1)))
-                  (λ (n : ℕ). state_of (library_of program given objects) at n)) now.pipes
+                  (λ (n : ℕ). state_of (plain_of program given objects) at n)) now.pipes
               fits_then =
                   subst (PipesFit objects program (slice_set at.object.pipes pipe
                   (after_put (direction_at program given objects at pipe)
@@ -404,14 +405,14 @@ module _ (program : Program) (given : Spot → Given) (objects : Objects)
                   (last_number (direction_at program given objects at pipe).kept + 1))))
                   (at_one pid (in_write (PutState.Standing
                   (last_number (direction_at program given objects at pipe).kept + 1)))
-                  (λ (n : ℕ). state_of (library_of program given objects) at n)))
+                  (λ (n : ℕ). state_of (plain_of program given objects) at n)))
                   (sym (pipes_are ∙ (ap (λ (one : Direction). slice_set q.pipes pipe
                   (accepted pid bytes one)) shown_is
                   ∙ ap (λ (n : ℕ). slice_set q.pipes pipe (accepted pid n
                   (shown fit.by (direction_at program given objects at pipe))))
                   (sym (length-replicate {A = ℕ} bytes 0)))))
                   (moved.put_one objects program at.object.pipes
-                  (λ (n : ℕ). state_of (library_of program given objects) at n) q.pipes pid low
+                  (λ (n : ℕ). state_of (plain_of program given objects) at n) q.pipes pid low
                   quiet.piped.fits pipe there (in_write (PutState.Standing
                   (last_number (direction_at program given objects at pipe).kept + 1)))
                   (λ over. over)
@@ -495,7 +496,7 @@ module _ (program : Program) (given : Spot → Given) (objects : Objects)
     abbrev number : ℕ
     number = put.number
 
-    state_there : state_of (library_of program given objects) at pid
+    state_there : state_of (plain_of program given objects) at pid
         ≡ in_write (PutState.Standing put.number)
     state_there =
         put.state_is
@@ -506,13 +507,13 @@ module _ (program : Program) (given : Spot → Given) (objects : Objects)
         (Writes (given (spot_of pid (q.place pid))).writer (replicate n 0)
         (Tries (PutState.Standing put.number))))) bytes_same)
 
-    has_put : put_in (state_of (library_of program given objects) at pid) pipe ≡ Some put.number
+    has_put : put_in (state_of (plain_of program given objects) at pid) pipe ≡ Some put.number
     has_put =
         ap (λ (s : ProgramState Spot ObjectCall). put_in s pipe) state_there
         ∙ (let self : (pipe == pipe) ≡ true = grind (arith, nat_tests) in rw self refl)
 
     put_nowhere : (other : ℕ) → other ≢ pipe
-        → put_in (state_of (library_of program given objects) at pid) other ≡ None
+        → put_in (state_of (plain_of program given objects) at pid) other ≡ None
     put_nowhere other apart =
         ap (λ (s : ProgramState Spot ObjectCall). put_in s other) state_there
         ∙ (let far : (pipe == other) ≡ false = grind (arith, nat_tests) in rw far refl)
@@ -581,16 +582,16 @@ module _ (program : Program) (given : Spot → Given) (objects : Objects)
 
     fits_then : PipesFit objects program (slice_set at.object.pipes pipe stands_now)
         (at_one pid (arrived program given objects pid line.next)
-        (λ (n : ℕ). state_of (library_of program given objects) at n))
+        (λ (n : ℕ). state_of (plain_of program given objects) at n))
         (slice_set q.pipes pipe (stood pid x))
     fits_then =
         subst (λ (one : Direction). PipesFit objects program
         (slice_set at.object.pipes pipe stands_now)
         (at_one pid (arrived program given objects pid line.next)
-        (λ (n : ℕ). state_of (library_of program given objects) at n))
+        (λ (n : ℕ). state_of (plain_of program given objects) at n))
         (slice_set q.pipes pipe (stood pid one))) (sym shown_is)
         (moved.stand_one objects program at.object.pipes
-        (λ (n : ℕ). state_of (library_of program given objects) at n) q.pipes pid low
+        (λ (n : ℕ). state_of (plain_of program given objects) at n) q.pipes pid low
         quiet.piped.fits pipe there (arrived program given objects pid line.next)
         (arrived_quiet program given objects pid line.next).awake put_nowhere
         (λ other apart. (arrived_quiet program given objects pid line.next).puts other)
@@ -631,6 +632,6 @@ module _ (program : Program) (given : Spot → Given) (objects : Objects)
               (ap (λ (o : ObjectStates). o.pipes) goes.object_is)
               (subst (PipesFit objects program (slice_set at.object.pipes pipe stands_now)
               (at_one pid (arrived program given objects pid line.next)
-              (λ (n : ℕ). state_of (library_of program given objects) at n))) (sym pipes_are)
+              (λ (n : ℕ). state_of (plain_of program given objects) at n))) (sym pipes_are)
               fits_then) due_then);
         }

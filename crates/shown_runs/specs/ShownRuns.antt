@@ -24,12 +24,12 @@ use Rattle.calls.specs.declared.process.Want.TheVariants as want
 use Rattle.calls.specs.Machine.{system_of}
 use Rattle.calls.specs.Position.{Position}
 use Rattle.calls.specs.Program.{IsProgram, Program, is_stream_at}
-use Rattle.call_machines.specs.Ends.{HasStopped}
+use Rattle.call_machines.specs.IdleRuns.{HasStoppedIdle, IdleStopAtRest}
 use Rattle.call_machines.specs.Machine.{Next}
 use Rattle.call_machines.specs.Programs as machines
-use Rattle.call_machines.specs.Programs.{ProgramState, rests_at}
+use Rattle.call_machines.specs.Programs.{MayIdleIn, ProgramState, rests_at}
 use Rattle.call_machines.specs.Programs.ProgramState.{In}
-use Rattle.call_machines.specs.Replies.{AreAskedSo, SuchStopAtRest}
+use Rattle.call_machines.specs.Replies.{AreAskedSo}
 use Rattle.call_machines.specs.Runs.{IsOfCalls, Step, own_in, procs, world_at}
 use Rattle.call_machines.specs.WaitTables.WaitState.{Waits}
 use Rattle.pipe_machines.specs.PipeRuns.{CallState}
@@ -38,17 +38,22 @@ use Rattle.pipe_machines.specs.Tries.TryState.{Tries}
 use Rattle.pipe_machines.specs.WriteMachine.{PutState}
 use Rattle.sema_machines.specs.SemaRuns.CallState.{Takes}
 use Rattle.space_machines.specs.MeetMachine.MeetState.{Calls}
-use Rattle.object_machines.specs.ObjectCalls.{ObjectCall, ObjectReply, ObjectRequest}
+use Rattle.object_machines.specs.ObjectCalls.{ObjectReply, ObjectRequest}
 use Rattle.object_machines.specs.ObjectCalls.{Objects, object_calls, object_does, sema_of}
 use Rattle.object_machines.specs.ObjectCalls.ObjectCall.{AtPipe, AtSema, InSpace}
-use Rattle.object_machines.specs.ObjectEnds.{LeavesUnworn}
-use Rattle.explored_calls.specs.LibraryCalls.{AreItsObjects, Given, HaveEnds, Spot, is_at_head}
-use Rattle.explored_calls.specs.LibraryCalls.{library_of}
-use Rattle.explored_calls.specs.LibraryCalls.{library_program, spot_at}
+use Rattle.timer_machines.specs.Requests.{TimedReply, TimedRequest}
+use Rattle.timed_machines.specs.TimedCalls.{timed_calls}
+use Rattle.timed_machines.specs.TimedCalls.TimedCall.{Plain}
+use Rattle.timed_machines.specs.TimedEnds.{IsTick}
+use Rattle.timed_machines.specs.TimedObjects.{LeavesTimedUnworn, TimedObjectCall}
+use Rattle.explored_calls.specs.LibraryCalls.{AreItsObjects, Given, HaveEnds, Spot, TicksSo}
+use Rattle.explored_calls.specs.LibraryCalls.{is_at_head, spot_at}
+use Rattle.explored_calls.specs.TimedLibrary.{timed_program}
+use Rattle.explored_calls.specs.TimedLibrary.{timed_library_of}
 
 -- ---- which programs
 
--- Left out by name: calls with a deadline, reads of a stream, ticks, and sleeps and wakeups.
+-- Left out by name: calls with a deadline, reads of a stream, and sleeps and wakeups.
 abbrev pub IsShownCall : Program → Call → Type 0
 IsShownCall program (call.Acquire sema None) = ⊤
 IsShownCall program (call.Try sema) = ⊤
@@ -62,12 +67,17 @@ IsShownCall program (call.Note pid notes) = ⊤
 IsShownCall program call.Drain = ⊤
 IsShownCall program call.Choose = ⊤
 IsShownCall program call.Never = ⊤
+IsShownCall program (call.Tick now) = ⊤
+IsShownCall program (call.Ticks now) = ⊤
 IsShownCall program other = ⊥
 
-abbrev pub AreShownCalls : Program → Type 0
-AreShownCalls program =
-    (place : ℕ) (line : Line) → slice_get program.lines place ≡ Some line
-    → IsShownCall program line.call
+-- Each call of the program is one of these; and one that ticks for ever leads to itself, and counts
+-- as over while no timer is due.
+pub record AreShownCalls (program : Program) : Type 0 where
+  pub calls : (place : ℕ) (line : Line) → slice_get program.lines place ≡ Some line
+      → IsShownCall program line.call
+  pub ticks : (place : ℕ) (line : Line) → slice_get program.lines place ≡ Some line
+      → TicksSo place line line.call
 
 -- A step grants a seat one unit at most, meets a member once, and puts one write. So in so few
 -- steps the grants of no seat, the meetings of no member and the numbers of no writes are worn out.
@@ -83,7 +93,7 @@ with_choices objects choices = record objects { choices = choices }
 
 -- the steps of a run of the library's calls
 abbrev pub LibraryStep : Type 0
-LibraryStep = Step ObjectRequest ObjectReply
+LibraryStep = Step (TimedRequest ObjectRequest) (TimedReply ObjectReply)
 
 abbrev pub spot_of : ℕ → ℕ → Spot
 spot_of pid place = record { by = pid; place = place }
@@ -99,47 +109,49 @@ offered_at given pid place tag =
 
 module _ (program : Program) (given : Spot → Given) (objects : Objects) where
   -- where a process is that goes on at a place: about to make the call there, or at its end
-  abbrev pub arrived : ℕ → ℕ → ProgramState Spot ObjectCall
+  abbrev pub arrived : ℕ → ℕ → ProgramState Spot TimedObjectCall
   arrived pid place =
-      machines.at_place (object_calls objects) (library_program program given)
+      machines.at_place (timed_calls (object_calls objects)) (timed_program objects program given)
       (spot_at program pid place)
 
   module _ (run : List LibraryStep) where
     -- it has gone on to this place, and has not made the call there
     pub record IsAtPlace (pid place : ℕ) : Type 0 where
-      pub at : (own_in (library_of program given objects) pid run).at ≡ arrived pid place
-      pub idle : (own_in (library_of program given objects) pid run).stage ≡ phase.Idle
+      pub at : (own_in (timed_library_of program given objects) pid run).at ≡ arrived pid place
+      pub idle : (own_in (timed_library_of program given objects) pid run).stage ≡ phase.Idle
 
     -- It sleeps in the semacquire of this place: it is posted in the Rendez of its seat, no level
     -- there is above its number, and no wakeup has marked it.
     pub record SleepsFor (pid place sema : ℕ) : Type 0 where
       pub number : ℕ
-      pub at : (own_in (library_of program given objects) pid run).at
-          ≡ In (spot_of pid place) (AtSema sema (Takes pid (Waits number)))
-      pub asleep : (own_in (library_of program given objects) pid run).stage
+      pub at : (own_in (timed_library_of program given objects) pid run).at
+          ≡ In (spot_of pid place) (Plain (AtSema sema (Takes pid (Waits number))))
+      pub asleep : (own_in (timed_library_of program given objects) pid run).stage
           ≡ phase.Asleep (rendez_at objects sema pid) number
-      pub posted : posted_of (world_at (library_of program given objects) run)
+      pub posted : posted_of (world_at (timed_library_of program given objects) run)
           (rendez_at objects sema pid).0 ≡ posted_as pid
-      pub below : level_of (world_at (library_of program given objects) run)
+      pub below : level_of (world_at (timed_library_of program given objects) run)
           (rendez_at objects sema pid).0 ≤ number
-      pub unmarked : (flags_of (world_at (library_of program given objects) run) pid).wake ≡ false
+      pub unmarked : (flags_of (world_at (timed_library_of program given objects) run) pid).wake
+          ≡ false
 
     -- It sleeps in the rendezvous of this place, in the same way, in the Rendez of its member.
     pub record SleepsForPartner (pid place tag : ℕ) : Type 0 where
       pub number : ℕ
-      pub at : (own_in (library_of program given objects) pid run).at
-          ≡ In (spot_of pid place) (InSpace (record {
+      pub at : (own_in (timed_library_of program given objects) pid run).at
+          ≡ In (spot_of pid place) (Plain (InSpace (record {
             member = pid;
             offered = offered_at given pid place tag;
             at = Calls (Waits number);
-          }))
-      pub asleep : (own_in (library_of program given objects) pid run).stage
+          })))
+      pub asleep : (own_in (timed_library_of program given objects) pid run).stage
           ≡ phase.Asleep (rendez_of_member objects.space pid) number
-      pub posted : posted_of (world_at (library_of program given objects) run)
+      pub posted : posted_of (world_at (timed_library_of program given objects) run)
           (rendez_of_member objects.space pid).0 ≡ posted_as pid
-      pub below : level_of (world_at (library_of program given objects) run)
+      pub below : level_of (world_at (timed_library_of program given objects) run)
           (rendez_of_member objects.space pid).0 ≤ number
-      pub unmarked : (flags_of (world_at (library_of program given objects) run) pid).wake ≡ false
+      pub unmarked : (flags_of (world_at (timed_library_of program given objects) run) pid).wake
+          ≡ false
 
     -- It sleeps in the read or the write of this place, in the same way: in the reader's Rendez or
     -- in that of its writer.
@@ -148,15 +160,16 @@ module _ (program : Program) (given : Spot → Given) (objects : Objects) where
       pub number : ℕ
       pub rendez : RendezId
       pub made : CallState
-      pub at : (own_in (library_of program given objects) pid run).at
-          ≡ In (spot_of pid place) (AtPipe pipe made)
+      pub at : (own_in (timed_library_of program given objects) pid run).at
+          ≡ In (spot_of pid place) (Plain (AtPipe pipe made))
       pub sleeps : object_does objects (AtPipe pipe made) ≡ Next.Sleep rendez number
-      pub asleep : (own_in (library_of program given objects) pid run).stage
+      pub asleep : (own_in (timed_library_of program given objects) pid run).stage
           ≡ phase.Asleep rendez number
-      pub posted : posted_of (world_at (library_of program given objects) run) rendez.0
+      pub posted : posted_of (world_at (timed_library_of program given objects) run) rendez.0
           ≡ posted_as pid
-      pub below : level_of (world_at (library_of program given objects) run) rendez.0 ≤ number
-      pub unmarked : (flags_of (world_at (library_of program given objects) run) pid).wake ≡ false
+      pub below : level_of (world_at (timed_library_of program given objects) run) rendez.0 ≤ number
+      pub unmarked : (flags_of (world_at (timed_library_of program given objects) run) pid).wake
+          ≡ false
 
     -- The explorer makes a read or a write again that waits. So such a process is about to make the
     -- call of this place, for the first time or again, or sleeps in it.
@@ -169,10 +182,10 @@ module _ (program : Program) (given : Spot → Given) (objects : Objects) where
       pub writer : ℕ
       pub bytes : List ℕ
       pub number : ℕ
-      pub at : (own_in (library_of program given objects) pid run).at
+      pub at : (own_in (timed_library_of program given objects) pid run).at
           ≡ In (spot_of pid place)
-          (AtPipe pipe (Writes writer bytes (Tries (PutState.Standing number))))
-      pub awake : (own_in (library_of program given objects) pid run).stage ≡ phase.Idle
+          (Plain (AtPipe pipe (Writes writer bytes (Tries (PutState.Standing number)))))
+      pub awake : (own_in (timed_library_of program given objects) pid run).stage ≡ phase.Idle
 
     -- by how a process of the explorer's machine stands
     abbrev pub StandsSo : ℕ → ℕ → Standing → Type 0
@@ -187,14 +200,14 @@ module _ (program : Program) (given : Spot → Given) (objects : Objects) where
     -- the process is where the explorer's machine has it, with the same notes
     pub record IsAsShown (pid : ℕ) (process : Process) : Type 0 where
       pub stands : StandsSo pid process.place process.standing
-      pub notes : (flags_of (world_at (library_of program given objects) run) pid).notes
+      pub notes : (flags_of (world_at (timed_library_of program given objects) run) pid).notes
           ≡ process.notes
 
     -- It is a run of the library's calls in which nothing is worn out, and leaves each process
     -- where the position has it.
     pub record ComesTo (at : Position) : Type 0 where
-      pub of : IsOfCalls (library_of program given objects) run
-      pub unworn : AreAskedSo LeavesUnworn run
+      pub of : IsOfCalls (timed_library_of program given objects) run
+      pub unworn : AreAskedSo LeavesTimedUnworn run
       pub each : (pid : ℕ) (process : Process) → slice_get at.processes pid ≡ Some process
           → IsAsShown pid process
 
@@ -207,25 +220,26 @@ module _ (program : Program) (given : Spot → Given) (objects : Objects) where
     pub run : List LibraryStep
     pub comes : ComesTo program given (with_choices objects choices) run at
 
-  -- such a run has stopped there, and this process waits for ever, and not at the head of its loop
+  -- such a run has stopped there, but for processes that tick for ever, and this process waits for
+  -- ever, and not at the head of its loop
   pub record Deadlocks (at : Position) : Type 0 where
     pub played : IsPlayed at
-    pub stopped : HasStopped (library_of program given (with_choices objects played.choices))
+    pub stopped : HasStoppedIdle
+        (timed_library_of program given (with_choices objects played.choices)) (MayIdleIn IsTick)
         played.run
     pub pid : ℕ
-    pub below : pid < procs (library_of program given (with_choices objects played.choices))
+    pub below : pid < procs (timed_library_of program given (with_choices objects played.choices))
     pub waits : rests_at (is_at_head program)
-        (own_in (library_of program given (with_choices objects played.choices)) pid
-        played.run).at
-        ≡ false
+        (own_in (timed_library_of program given (with_choices objects played.choices)) pid
+        played.run).at ≡ false
 
   -- a run of the library's calls comes to where this process is about to make a call that is never
   -- to be made
   pub record ComesToNever : Type 0 where
     pub choices : List Bool
     pub run : List LibraryStep
-    pub of : IsOfCalls (library_of program given (with_choices objects choices)) run
-    pub unworn : AreAskedSo LeavesUnworn run
+    pub of : IsOfCalls (timed_library_of program given (with_choices objects choices)) run
+    pub unworn : AreAskedSo LeavesTimedUnworn run
     pub pid : ℕ
     pub place : ℕ
     pub line : Line
@@ -255,8 +269,8 @@ ShownAreRuns =
     (shown_at program movers).course ≢ course.Ended
     → IsPlayed program given objects (shown_at program movers))
 
--- Where the machine is stuck after it, the run has stopped, and is a deadlock: each process that
--- the position has waiting waits in that call for ever.
+-- Where the machine is stuck after it, the run has stopped, but for processes that tick for ever,
+-- and is a deadlock: each process that the position has waiting waits in that call for ever.
 abbrev pub StuckIsDeadlock : Type 0
 StuckIsDeadlock =
     OfEachSchedule (λ program given objects movers.
@@ -271,8 +285,8 @@ NoneIsStuck =
     OfEachSchedule (λ program given objects movers.
     (shown_at program movers).course ≡ course.Open
     → ((choices : List Bool)
-    → SuchStopAtRest (library_of program given (with_choices objects choices)) LeavesUnworn
-    (λ state. rests_at (is_at_head program) state ≡ true))
+    → IdleStopAtRest (timed_library_of program given (with_choices objects choices))
+    (MayIdleIn IsTick) LeavesTimedUnworn (λ state. rests_at (is_at_head program) state ≡ true))
     → is_stuck (system_of program) (shown_at program movers) ≡ false)
 
 -- Where it has reached what must not be reached, so does a run.

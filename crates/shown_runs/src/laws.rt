@@ -11,14 +11,14 @@ ghost use Rattle.shown_runs.specs.ShownRuns.{
 /// of choices: at its end each process has ended, or is about to make its call, or sleeps in it,
 /// or its write is to stand, just as the position has it. Covered are schedules that do not end the
 /// program, of so few steps that no grants, no meetings and no numbers of writes are worn out; and
-/// semaphores, rendezvous, messages of pipes, notes, drains, choices and loops.
+/// semaphores, rendezvous, messages of pipes, notes, drains, choices, loops and ticks.
 pub fn schedules_are_runs()
     ensures { ShownAreRuns }
 {}
 
-/// Where the machine is stuck after a schedule, such a run has stopped and is a deadlock: each
-/// process that the position has waiting waits in that call for ever, and one of them not at the
-/// head of its loop.
+/// Where the machine is stuck after a schedule, such a run has stopped, but for processes that tick
+/// for ever, and is a deadlock: each process that the position has waiting waits in that call for
+/// ever, and one of them not at the head of its loop.
 pub fn stuck_is_a_deadlock()
     ensures { StuckIsDeadlock }
 {}
