@@ -1,7 +1,7 @@
 -- What is true of each of a list, and of what is there if something is.
-use Rattle.std.proofs.Common.{◌≡◌, ◌&&◌, ℕ, zero, suc, Bool, true, false, if◌then◌else◌, Option}
+use Rattle.std.proofs.Common.{◌≡◌, ℕ, zero, suc, Bool, true, false, if◌then◌else◌, Option}
 use Rattle.std.proofs.Common.{Some, None, List, [], ◌∷◌, ◌++◌, get_or, map, option_and_then, refl}
-use Rattle.std.proofs.Common.{sym, subst}
+use Rattle.std.proofs.Common.{subst}
 use Rattle.std.specs.Prelude.{⊤, drop, replicate, slice_get, slice_set}
 use Rattle.std.specs.List.{AllByRecursion, list_all, repeat}
 use Rattle.std.specs.Option.{option_map}

@@ -1,23 +1,19 @@
--- Each call of a script whose calls stand in blocks can be made in the program of calls, and its
--- numbers are in range.
+-- Each call of a script can be made in its program, and its numbers are in range.
 use Rattle.std.proofs.Common.{◌≡◌, ◌≤◌, ◌+◌, ◌-◌, ◌&&◌, ◌||◌, ◌++◌, ℕ, zero, suc, nat_le, nat_lt}
 use Rattle.std.proofs.Common.{Bool, true, false, not, if◌then◌else◌, Option, Some, None, List, []}
-use Rattle.std.proofs.Common.{◌∷◌, length, map, take, option_and_then, refl, sym, subst, ap}
+use Rattle.std.proofs.Common.{◌∷◌, length, map, take, refl, sym, subst, ap}
 use Rattle.std.proofs.Common.{◌∙◌, arith}
-use Rattle.std.specs.Prelude.{⊤, is_none, is_some, replicate, slice_get}
-use Rattle.std.specs.Option.{option_map, option_map_or}
+use Rattle.std.specs.Prelude.{⊤, is_none, is_some, slice_get}
+use Rattle.std.specs.Option.{option_map_or}
 use Rattle.std.proofs.lemmas.List.{length-append, length-map}
 use Rattle.sync_base.specs.declared.mode.Mode.{Mode}
 use Rattle.scripts.specs.declared.script.TheConstants.{MAX_LINE, MAX_SCRIPT}
 use Rattle.scripts.specs.Lines.{is_word, lines_of, words_of}
 use Rattle.scripts.specs.Script.{is_cut_off}
-use Rattle.layers.specs.declared.outcome.Outcome.{Outcome}
-use Rattle.layers.specs.declared.sema_size.SemaSize.{SemaSize}
-use Rattle.layers.specs.Program.{Program, procs_of, with_clock, with_pipe, with_sema, with_space}
-use Rattle.layers.specs.Program.{without_calls}
+use Rattle.calls.specs.declared.call.Call.{Call}
 use Rattle.calls.specs.declared.call.Sizes.{Sizes}
 use Rattle.calls.specs.declared.line.Line.{Line as Lined}
-use Rattle.calls.specs.Program.{IsProgram, is_limit, is_value, sizes_of as sizes_of_calls}
+use Rattle.calls.specs.Program.{IsProgram, is_value, sizes_of as sizes_of_calls}
 use Rattle.p9explore.specs.declared.block_line.BlockLine.{BlockLine}
 use Rattle.p9explore.specs.declared.block_line.BlockLine.TheVariants as said
 use Rattle.p9explore.specs.declared.blocks.BlockKind.{BlockKind}
@@ -25,52 +21,51 @@ use Rattle.p9explore.specs.declared.blocks.BlockKind.TheVariants as kind
 use Rattle.p9explore.specs.declared.blocks.Choice.{Choice}
 use Rattle.p9explore.specs.declared.call_line.Line.{Line}
 use Rattle.p9explore.specs.declared.call_line.Line.TheVariants as line
+use Rattle.p9explore.specs.declared.devices.Outcome.{Outcome}
+use Rattle.p9explore.specs.declared.devices.SemaSize.{SemaSize}
 use Rattle.p9explore.specs.declared.jumps.From.{From}
+use Rattle.p9explore.specs.declared.jumps.TheConstants.{MAX_JUMPS}
 use Rattle.p9explore.specs.declared.laying.TheConstants.{MAX_READ}
-use Rattle.p9explore.specs.declared.ons.TheConstants.{MAX_ONS}
-use Rattle.p9explore.specs.declared.places.BlockCall.{BlockCall}
-use Rattle.p9explore.specs.declared.places.BlockCall.TheVariants as call
 use Rattle.p9explore.specs.declared.places.Last.{Last}
 use Rattle.p9explore.specs.declared.places.Placed.{Placed}
 use Rattle.p9explore.specs.declared.places.Placed.TheVariants as placed
 use Rattle.p9explore.specs.declared.places.Slot.{Slot}
 use Rattle.p9explore.specs.declared.places.Slot.TheVariants as slot
 use Rattle.p9explore.specs.declared.places.TheConstants.{OVER}
-use Rattle.p9explore.specs.Additions.{clocked, declared, has_device, has_room, laid, size_for}
-use Rattle.p9explore.specs.Additions.{spaced}
 use Rattle.p9explore.specs.BlockLines.{block_line_of, goal_in}
 use Rattle.p9explore.specs.Blocks.{head_of, innermost}
-use Rattle.p9explore.specs.ByCalls.{laid as limit_laid}
+use Rattle.p9explore.specs.Devices.{Devices, can_call, clocked, declared, ends_in, has_device}
+use Rattle.p9explore.specs.Devices.{has_room, laid, no_devices, pipe_size, reads, spaced}
+use Rattle.p9explore.specs.Devices.{with_pipe, with_sema, with_space}
 use Rattle.p9explore.specs.Jumps.{Jumping, has_jump, settled_in}
 use Rattle.p9explore.specs.LaidLines.{final_line, laid_program, starts_from}
-use Rattle.p9explore.specs.Laying.{BlocksRead, Laid, Progress, awaits_by, begins_way, block_after}
+use Rattle.p9explore.specs.Laying.{Laid, Progress, Read, awaits_by, block_after}
 use Rattle.p9explore.specs.Laying.{block_awaits, block_chooses, block_clocks, block_declares}
-use Rattle.p9explore.specs.Laying.{block_ends, block_goes, block_lays, block_loops, block_makes}
-use Rattle.p9explore.specs.Laying.{block_nevers, block_opens, block_ors, block_repeats}
-use Rattle.p9explore.specs.Laying.{block_settles, block_turns, block_words_after, blocks_read}
-use Rattle.p9explore.specs.Laying.{blocks_spelled, can_stand, choice_more, ends_by, ends_choice}
-use Rattle.p9explore.specs.Laying.{ends_in, ends_loop, ends_repeat, fresh_head, from_at}
+use Rattle.p9explore.specs.Laying.{block_goes, block_lays, block_loops, block_makes}
+use Rattle.p9explore.specs.Laying.{block_nevers, block_opens, block_repeats}
+use Rattle.p9explore.specs.Laying.{block_settles, block_turns, block_words_after, can_await}
+use Rattle.p9explore.specs.Laying.{can_stand, choice_more, ends_by, ends_in as ended}
+use Rattle.p9explore.specs.Laying.{ends_repeat, fresh_head, from_at}
 use Rattle.p9explore.specs.Laying.{goes_nowhere, here, innermost_choice, is_block_open, is_of_other}
-use Rattle.p9explore.specs.Laying.{jumps_by, jumps_to, laid_in, leads_away, may_be_head}
+use Rattle.p9explore.specs.Laying.{jumps_by, jumps_to, laid_in, leads_away, lines_read, may_be_head}
 use Rattle.p9explore.specs.Laying.{opening_laid, ors_in, other_led, other_way, plain_laid}
 use Rattle.p9explore.specs.Laying.{progress_on, read_next, read_on, settles_if, settles_in}
-use Rattle.p9explore.specs.Laying.{tail_of, with_block, with_call, with_choice, with_devices}
-use Rattle.p9explore.specs.Laying.{with_label, with_maker, with_never, with_on}
-use Rattle.p9explore.specs.Laying.{with_pipe as with_direction, with_rest, with_tail, with_way_over}
+use Rattle.p9explore.specs.Laying.{spelled, tail_of, with_block, with_call}
+use Rattle.p9explore.specs.Laying.{with_devices, with_direction, with_label, with_maker}
+use Rattle.p9explore.specs.Laying.{with_never, with_on, with_rest, with_tail, with_way_over}
 use Rattle.p9explore.specs.Laying.{without_block}
-use Rattle.p9explore.specs.Laying.BlocksRead.{Lays, LaysNot}
 use Rattle.p9explore.specs.Laying.Progress.{Done, Goes}
+use Rattle.p9explore.specs.Laying.Read.{FaultAt, Spells}
 use Rattle.p9explore.specs.Names.{Named, is_name, names_in}
-use Rattle.p9explore.specs.Places.{call_placed, can_end_so, can_make_so, choice_placed, has_answer}
-use Rattle.p9explore.specs.Places.{led, line_led, made_of_block, never_placed, one_led, reads_of}
-use Rattle.p9explore.specs.Places.{slot_of, with_led}
+use Rattle.p9explore.specs.Places.{call_placed, choice_placed, led, line_led, never_placed}
+use Rattle.p9explore.specs.Places.{one_led, with_led}
 use Rattle.p9explore.specs.Reading.{is_next, sizes_of}
 use Rattle.p9explore.proofs.EachLemmas.{Each, Such, each_append, each_map, each_same, each_set}
-use Rattle.p9explore.proofs.EachLemmas.{each_so, each_there, such_any, such_if, such_map}
+use Rattle.p9explore.proofs.EachLemmas.{each_so, each_there, such_if, such_map}
 use Rattle.p9explore.proofs.EachLemmas.{such_tested, such_then}
-use Rattle.p9explore.proofs.MadeLemmas.{CanLine, CanMake, HasLimit, HasValue, IsMade, call_there}
-use Rattle.p9explore.proofs.MadeLemmas.{can_be_so, more_pipes, more_semas, sizes_in}
-use Rattle.p9explore.proofs.NamedLemmas.{none_made, one_more, pipe_made, sema_made}
+use Rattle.p9explore.proofs.MadeLemmas.{CanLine, HasLimit, HasValue, IsMade, call_there}
+use Rattle.p9explore.proofs.MadeLemmas.{can_be_so, more_pipes, more_semas, none_made, one_more}
+use Rattle.p9explore.proofs.MadeLemmas.{pipe_made, sema_made, sizes_in}
 use Rattle.p9explore.proofs.RangeLemmas.{InRange, IsInRange, and_first, block_line_so}
 
 -- ---- places
@@ -154,7 +149,7 @@ module _ (so_far : Laid) (made : LaidMade so_far) where
   -- devices
   opens_so : (maker : Option ℕ) (members : ℕ) → Such LaidMade (block_opens so_far maker members)
   opens_so None members =
-      such_map (λ (next : Program). IsMade next × Each (CanPlace (sizes_in next)) so_far.places)
+      such_map (λ (next : Devices). IsMade next × Each (CanPlace (sizes_in next)) so_far.places)
       LaidMade (with_devices so_far) (spaced so_far.devices members) (λ next is. is)
       (such_tested _ (not (has_device so_far.devices) && has_room so_far.devices members)
       (with_space so_far.devices members) (λ _. made))
@@ -164,7 +159,7 @@ module _ (so_far : Laid) (made : LaidMade so_far) where
       → Such LaidMade (block_declares so_far maker place size)
   declares_so None place size is =
       such_if LaidMade (is_next place (length so_far.devices.semas)) _ None
-      (such_map (λ (next : Program). IsMade next × Each (CanPlace (sizes_in next)) so_far.places)
+      (such_map (λ (next : Devices). IsMade next × Each (CanPlace (sizes_in next)) so_far.places)
       LaidMade (with_devices so_far) (declared so_far.devices size) (λ next is. is)
       (such_tested _ (has_room so_far.devices size.seats) (with_sema so_far.devices size) (λ _. (
         sema_made so_far.devices made.0 size is,
@@ -174,14 +169,14 @@ module _ (so_far : Laid) (made : LaidMade so_far) where
   declares_so (Some pid) place size is = tt
 
   lays_so : (maker place : Option ℕ) (limit : ℕ) (mode : Mode)
-      → HasLimit (size_for (procs_of so_far.devices) limit mode)
+      → HasLimit (pipe_size limit mode)
       → Such LaidMade (block_lays so_far maker place limit mode)
   lays_so None place limit mode is =
-      let size = size_for (procs_of so_far.devices) limit mode in
+      let size = pipe_size limit mode in
       such_if LaidMade (is_next place (length so_far.devices.pipes)) _ None
-      (such_map (λ (next : Program). IsMade next × Each (CanPlace (sizes_in next)) so_far.places)
+      (such_map (λ (next : Devices). IsMade next × Each (CanPlace (sizes_in next)) so_far.places)
       LaidMade (with_direction so_far) (laid so_far.devices limit mode) (λ next so. so)
-      (such_tested _ (has_room so_far.devices (1 + procs_of so_far.devices))
+      (such_tested _ (has_room so_far.devices (ends_in so_far.devices))
       (with_pipe so_far.devices size) (λ _. (
         pipe_made so_far.devices made.0 size is,
         pipes_so sizes (length (so_far.devices.pipes ++ size ∷ []))
@@ -191,9 +186,9 @@ module _ (so_far : Laid) (made : LaidMade so_far) where
 
   clocks_so : (maker : Option ℕ) → Such LaidMade (block_clocks so_far maker)
   clocks_so None =
-      such_map (λ (next : Program). IsMade next × Each (CanPlace (sizes_in next)) so_far.places)
+      such_map (λ (next : Devices). IsMade next × Each (CanPlace (sizes_in next)) so_far.places)
       LaidMade (with_devices so_far) (clocked so_far.devices) (λ next is. is)
-      (such_if _ so_far.devices.has_clock None (Some (with_clock so_far.devices)) tt made)
+      (such_if _ so_far.devices.has_clock None _ tt made)
   clocks_so (Some pid) = tt
 
   -- a place more, or a place led elsewhere
@@ -211,26 +206,21 @@ module _ (so_far : Laid) (made : LaidMade so_far) where
   )
 
   -- a call
-  block_call_there : (pid : ℕ) (one : BlockCall) → can_make_so so_far.devices pid one ≡ true
-      → CanMake sizes (made_of_block one)
-  block_call_there pid (call.Plain one) can = call_there so_far.devices pid one can
-  block_call_there pid (call.TryRead pipe room) can = can
-
-  makes_so : (maker : Option ℕ) (one : BlockCall) → Such LaidMade (block_makes so_far maker one)
+  makes_so : (maker : Option ℕ) (one : Call) → Such LaidMade (block_makes so_far maker one)
   makes_so None one = tt
   makes_so (Some pid) one =
       such_tested LaidMade (can_stand so_far pid one) (with_call so_far pid one) (λ can. (
         made.0,
         more_so sizes so_far.places (call_placed (here so_far) one so_far.way.is_first) made.1
-            (block_call_there pid one (and_first (can_make_so so_far.devices pid one)
-            (not (is_of_other so_far.readers pid (reads_of one))) can)),
+            (call_there so_far.devices pid one (and_first (can_call so_far.devices pid one)
+            (not (is_of_other so_far.readers pid (reads one))) can)),
       ))
 
   -- jumps
   jumps_by_so : (from : From) (label : List ℕ) (head : Option ℕ)
       → Such LaidMade (jumps_by so_far from label head)
   jumps_by_so from label None =
-      such_tested LaidMade (nat_lt (length so_far.jumps) MAX_ONS) _ (λ _. made)
+      such_tested LaidMade (nat_lt (length so_far.jumps) MAX_JUMPS) _ (λ _. made)
   jumps_by_so from label (Some head) =
       (made.0, led_so sizes so_far.places from.place from.slot head made.1)
 
@@ -279,14 +269,14 @@ module _ (so_far : Laid) (made : LaidMade so_far) where
         (refl, (tt, tt)),
   )
 
-  ends_repeat_so : (left number : ℕ) (rest : List (List ℕ))
-      → LaidMade (ends_repeat so_far left number rest)
-  ends_repeat_so left number rest = by (nat_lt 1 left)
+  ends_repeat_so : (left number start : ℕ) (rest : List (List ℕ))
+      → LaidMade (ends_repeat so_far left number start rest)
+  ends_repeat_so left number start rest = by (nat_lt 1 left)
     where
       by : (more : Bool) → LaidMade
           (if more
-          then record (with_block (without_block so_far) (kind.Repeats (left - 1) number) [] rest) {
-            last = None;
+          then record (with_block (without_block so_far) (kind.Repeats (left - 1) number start) []
+          rest) {
             number = number;
             rest = rest;
           }
@@ -296,7 +286,7 @@ module _ (so_far : Laid) (made : LaidMade so_far) where
 
   ends_by_so : (rest : List (List ℕ)) (block : BlockKind)
       → Such LaidMade (ends_by so_far rest block)
-  ends_by_so rest (kind.Repeats left number) = ends_repeat_so left number rest
+  ends_by_so rest (kind.Repeats left number start) = ends_repeat_so left number start rest
   ends_by_so rest (kind.Loops head is_labelled) =
       such_if LaidMade so_far.way.is_idle None _ tt
       (made.0, more_so sizes so_far.places (placed.Goes head) made.1 tt)
@@ -304,7 +294,7 @@ module _ (so_far : Laid) (made : LaidMade so_far) where
       such_if LaidMade (is_none choice.way) None _ tt
       (made.0, led_so sizes so_far.places choice.join slot.Other (here so_far) made.1)
 
-  ends_in_so : (found : Option (BlockKind × List (List ℕ))) → Such LaidMade (ends_in so_far found)
+  ends_in_so : (found : Option (BlockKind × List (List ℕ))) → Such LaidMade (ended so_far found)
   ends_in_so None = tt
   ends_in_so (Some found) = ends_by_so found.1 found.0
 
@@ -336,7 +326,7 @@ awaits_by_so : (so_far : Laid) → LaidMade so_far → (last : Option Last) (end
     (label : List ℕ) → Such LaidMade (awaits_by so_far last ended label)
 awaits_by_so so_far made None ended label = tt
 awaits_by_so so_far made (Some last) ended label =
-    such_if LaidMade (can_end_so last.call ended && not (has_answer last (slot_of ended))) _ None
+    such_if LaidMade (can_await so_far last ended) _ None
     (jumps_so (with_on so_far last ended) made _ label) tt
 
 awaits_so : (so_far : Laid) → LaidMade so_far → (maker : Option ℕ) (ended : Outcome)
@@ -364,7 +354,7 @@ ors_so so_far made (Some choice) =
 turns_so : (so_far : Laid) → LaidMade so_far → (pid : ℕ)
     → Such LaidMade (block_turns so_far pid)
 turns_so so_far made pid =
-    such_tested LaidMade (not (is_block_open so_far) && nat_lt pid (procs_of so_far.devices)) _
+    such_tested LaidMade (not (is_block_open so_far) && nat_lt pid so_far.devices.procs) _
     (λ _. maker_so (with_tail so_far so_far.maker) (tail_so so_far made so_far.maker) pid)
 
 -- ---- any line
@@ -376,7 +366,7 @@ module _ (so_far : Laid) (made : LaidMade so_far) (label : List ℕ) where
   plain_so (line.Declares place size) is = declares_so so_far made so_far.maker place size is
   plain_so (line.Lays place limit mode) is = lays_so so_far made so_far.maker place limit mode is
   plain_so line.Clock is = clocks_so so_far made so_far.maker
-  plain_so (line.Makes one) is = makes_so so_far made so_far.maker (call.Plain one)
+  plain_so (line.Makes one) is = makes_so so_far made so_far.maker one
   plain_so (line.Repeats times) is = repeats_so so_far made so_far.maker times
   plain_so line.Ends is = ends_in_so so_far made (innermost so_far.blocks)
   plain_so (line.On ended) is = awaits_so so_far made so_far.maker ended label
@@ -384,7 +374,6 @@ module _ (so_far : Laid) (made : LaidMade so_far) (label : List ℕ) where
 
   line_so : (one : BlockLine) → IsInRange one → Such LaidMade (laid_in so_far label one)
   line_so (said.Plain one) is = plain_so one is
-  line_so (said.TryRead pipe room) is = makes_so so_far made so_far.maker (call.TryRead pipe room)
   line_so said.Go is = goes_so so_far made so_far.maker label
   line_so said.Never is = nevers_so so_far made so_far.maker label
   line_so said.Loop is = loops_so so_far made so_far.maker
@@ -393,13 +382,13 @@ module _ (so_far : Laid) (made : LaidMade so_far) (label : List ℕ) where
 
 -- ---- all lines
 
-abbrev LaysMade : BlocksRead → Type 0
-LaysMade (Lays laid) = LaidMade laid
-LaysMade (LaysNot number) = ⊤
+abbrev SpellsMade : Read → Type 0
+SpellsMade (Spells laid) = LaidMade laid
+SpellsMade (FaultAt number) = ⊤
 
 abbrev ProgressMade : Progress → Type 0
 ProgressMade (Goes so_far) = LaidMade so_far
-ProgressMade (Done read) = LaysMade read
+ProgressMade (Done read) = SpellsMade read
 
 module _ (names : List Named) (is_cut : Bool) where
   after_so : (so_far : Laid) → LaidMade so_far → (text : List ℕ)
@@ -416,7 +405,7 @@ module _ (names : List Named) (is_cut : Bool) where
       → ProgressMade (read_next names is_cut so_far texts)
   next_so so_far made [] = by (is_cut || is_block_open so_far)
     where
-      by : (fails : Bool) → LaysMade (if fails then LaysNot so_far.number else Lays so_far)
+      by : (fails : Bool) → SpellsMade (if fails then FaultAt so_far.number else Spells so_far)
       by true = tt
       by false = made
   next_so so_far made (text ∷ texts) =
@@ -424,36 +413,36 @@ module _ (names : List Named) (is_cut : Bool) where
       (after_so (with_rest so_far texts) made text)
     where
       by : (next : Option Laid) → Such LaidMade next
-          → ProgressMade (option_map_or Goes next (Done (LaysNot so_far.number)))
+          → ProgressMade (option_map_or Goes next (Done (FaultAt so_far.number)))
       by None is = tt
       by (Some next) is = is
 
   on_so : (more : ℕ) (so_far : Laid) → LaidMade so_far
-      → LaysMade (read_on names is_cut more so_far)
+      → SpellsMade (read_on names is_cut more so_far)
   on_so zero so_far made = tt
   on_so (suc more) so_far made =
       by (λ next is. on_so more next is) (read_next names is_cut so_far so_far.rest)
       (next_so so_far made so_far.rest)
     where
-      by : ((next : Laid) → LaidMade next → LaysMade (read_on names is_cut more next))
+      by : ((next : Laid) → LaidMade next → SpellsMade (read_on names is_cut more next))
           → (progress : Progress) → ProgressMade progress
-          → LaysMade (progress_on (λ next. read_on names is_cut more next) progress)
+          → SpellsMade (progress_on (λ next. read_on names is_cut more next) progress)
       by goes (Goes next) is = goes next is
       by goes (Done read) is = is
 
   opening_so : (sizes : ℕ × ℕ) (rest : List (List ℕ)) → LaidMade (opening_laid sizes rest)
   opening_so sizes rest = (
     none_made sizes.0 sizes.1,
-    each_same (CanPlace (sizes_in (without_calls sizes.0 sizes.1))) sizes.0 goes_nowhere tt,
+    each_same (CanPlace (sizes_in (no_devices sizes.0 sizes.1))) sizes.0 goes_nowhere tt,
   )
 
-  read_so : (texts : List (List ℕ)) → LaysMade (blocks_read names is_cut texts)
+  read_so : (texts : List (List ℕ)) → SpellsMade (lines_read names is_cut texts)
   read_so [] = tt
   read_so (text ∷ texts) = by (sizes_of (words_of text))
     where
-      by : (sizes : Option (ℕ × ℕ)) → LaysMade
+      by : (sizes : Option (ℕ × ℕ)) → SpellsMade
           (option_map_or (λ sizes. read_on names is_cut MAX_READ (opening_laid sizes texts)) sizes
-          (LaysNot 1))
+          (FaultAt 1))
       by None = tt
       by (Some sizes) = on_so MAX_READ (opening_laid sizes texts) (opening_so sizes texts)
 
@@ -466,15 +455,14 @@ starts_many places (suc pid) =
     ∙ ap (λ (n : ℕ). n + 1) (starts_many places pid)
     ∙ omega arith
 
--- The program of calls of a script whose calls stand in blocks can be made.
-pub laid_made : (script : List ℕ) (so_far : Laid) → blocks_spelled script ≡ Lays so_far
+-- The program of a script can be made.
+pub laid_made : (script : List ℕ) (so_far : Laid) → spelled script ≡ Spells so_far
     → IsProgram (laid_program so_far)
 laid_made script so_far spells =
     can_be_so (laid_program so_far)
     (each_map HasValue (λ value. is_value value ≡ true) (λ (size : SemaSize). size.value)
     (λ size is. is) so_far.devices.semas made.0.values)
-    (each_map HasLimit (λ size. is_limit size ≡ true) limit_laid (λ size is. is)
-    so_far.devices.pipes made.0.limits)
+    made.0.limits
     (subst (λ (sizes : Sizes). Each (CanLine sizes) (map (final_line so_far.places) so_far.places))
     (sym same)
     (each_map (CanPlace (sizes_in so_far.devices)) (CanLine (sizes_in so_far.devices))
@@ -482,7 +470,7 @@ laid_made script so_far spells =
   where
     made : LaidMade so_far
     made =
-        subst LaysMade spells
+        subst SpellsMade spells
         (read_so (names_in script) (is_cut_off script) (lines_of (take MAX_SCRIPT script)))
 
     final_so : (one : Placed) → CanPlace (sizes_in so_far.devices) one
@@ -492,12 +480,11 @@ laid_made script so_far spells =
 
     same : sizes_of_calls (laid_program so_far) ≡ sizes_in so_far.devices
     same =
-        let procs = starts_many so_far.places (procs_of so_far.devices) in
+        let procs = starts_many so_far.places so_far.devices.procs in
         let semas = length-map so_far.devices.semas (λ (size : SemaSize). size.value) in
-        let pipes = length-map so_far.devices.pipes limit_laid in
         λ i. record {
           procs = procs i;
           semas = semas i;
-          pipes = pipes i;
+          pipes = length so_far.devices.pipes;
           rendez = so_far.devices.rendez;
         }

@@ -1,6 +1,6 @@
 -- The numbers of a line are in range.
-use Rattle.std.proofs.Common.{◌≡◌, ◌&&◌, ℕ, Bool, true, false, not, if◌then◌else◌, Option, Some}
-use Rattle.std.proofs.Common.{None, List, [], ◌∷◌, nat_le, nat_lt, option_and_then, refl, ap, arith}
+use Rattle.std.proofs.Common.{◌≡◌, ◌&&◌, ℕ, Bool, true, false, not, Option, Some}
+use Rattle.std.proofs.Common.{None, List, [], ◌∷◌, nat_le, nat_lt, refl, ap, arith}
 use Rattle.std.specs.Prelude.{⊤, codes}
 use Rattle.std.specs.Option.{option_map}
 use Rattle.std.proofs.lemmas.Bool.{and_from, le-ltb, leb-true, lt-ltb}
@@ -9,18 +9,18 @@ use Rattle.sync_base.specs.declared.mode.Mode.{Mode}
 use Rattle.scripts.specs.Lines.{is_word, number_of, number_within}
 use Rattle.scripts.specs.PipeScript.{mode_of}
 use Rattle.semaphore.specs.declared.limits.TheConstants.{MAX_VALUE}
-use Rattle.layers.specs.declared.sema_size.SemaSize.{SemaSize}
-use Rattle.calls.specs.Program.{is_limit, is_value}
+use Rattle.calls.specs.Program.{is_value}
 use Rattle.p9explore.specs.declared.block_line.BlockLine.{BlockLine}
 use Rattle.p9explore.specs.declared.block_line.BlockLine.TheVariants as block
 use Rattle.p9explore.specs.declared.call_line.Line.{Line}
 use Rattle.p9explore.specs.declared.call_line.Line.TheVariants as line
+use Rattle.p9explore.specs.declared.devices.SemaSize.{SemaSize}
 use Rattle.p9explore.specs.declared.names.Kind.TheVariants as kind
-use Rattle.p9explore.specs.BlockLines.{block_line_of, labelled, lone_line, try_read_line}
+use Rattle.p9explore.specs.BlockLines.{block_line_of, labelled, lone_line}
 use Rattle.p9explore.specs.LineWords.{has_end, is_alone, one_word, two_words}
 use Rattle.p9explore.specs.Names.{Named, is_name}
-use Rattle.p9explore.specs.Reading.{both, call_line_of, call_of, declares, direction_of, end_of}
-use Rattle.p9explore.specs.Reading.{lays, line_of, lone_object, object_and_number, on_of, pipe_at}
+use Rattle.p9explore.specs.Reading.{both, call_line_of, call_of, declares, direction_of}
+use Rattle.p9explore.specs.Reading.{lays, line_of, lone_object, on_of, pipe_at}
 use Rattle.p9explore.specs.Reading.{pipe_of, place_in, sema_at, sema_of, sema_size_of, sized}
 use Rattle.p9explore.specs.Reading.{space_of, times_of, with_mode}
 use Rattle.p9explore.proofs.EachLemmas.{Such, such_any, such_if, such_map, such_tested, such_then}
@@ -32,7 +32,7 @@ InRange (line.Lays place limit mode) =
     (nat_lt 0 limit && not (nat_lt MAX_PIPE_LIMIT limit)) ≡ true
 InRange other = ⊤
 
--- the same of a line of a script whose calls stand in blocks
+-- the same of a line of blocks
 abbrev pub IsInRange : BlockLine → Type 0
 IsInRange (block.Plain said) = InRange said
 IsInRange other = ⊤
@@ -180,14 +180,10 @@ pub block_line_so : (names : List Named) (words : List (List ℕ))
     → Such IsInRange (block_line_of names words)
 block_line_so names [] = tt
 block_line_so names (verb ∷ words) =
-    such_if IsInRange (is_word verb (codes "try_read")) _ _
-    (such_map (λ (numbers : ℕ × ℕ). ⊤) IsInRange try_read_line
-    (object_and_number names kind.Pipe words) (λ _ _. tt)
-    (such_any (object_and_number names kind.Pipe words)))
-    (such_if IsInRange (is_word verb (codes "go")) _ _ (label_so block.Go words tt)
+    such_if IsInRange (is_word verb (codes "go")) _ _ (label_so block.Go words tt)
     (such_if IsInRange (is_word verb (codes "never")) _ _ (label_so block.Never words tt)
     (such_if IsInRange (is_word verb (codes "loop")) _ _ (alone_so block.Loop words tt)
     (such_if IsInRange (is_word verb (codes "either")) _ _ (alone_so block.Either words tt)
     (such_if IsInRange (is_word verb (codes "or")) _ _ (alone_so block.Or words tt)
     (such_map InRange IsInRange block.Plain (line_of names (verb ∷ words)) (λ said is. is)
-    (line_so names (verb ∷ words))))))))
+    (line_so names (verb ∷ words)))))))

@@ -1,10 +1,11 @@
--- What scripts spell by calls, with blocks and without, and which of them are covered by what the
--- answer `ends` says of the library's calls.
+-- What scripts spell, with blocks and without, and which of them are covered by what the answer
+-- `ends` says of the library's calls.
 use Rattle.std.proofs.Common.{◌≡◌, ℕ, zero, suc, Bool, true, false, List, [], ◌∷◌, Some, None}
 use Rattle.std.proofs.Common.{codes, refl, subst}
 use Rattle.std.specs.Prelude.{slice_get}
 use Rattle.sync_base.specs.declared.mode.Mode.{Mode}
 use Rattle.sync_base.specs.declared.mode.Mode.TheVariants.{Message, Stream}
+use Rattle.hex.specs.Hex.{decode_pairs}
 use Rattle.searches.specs.declared.order.Order.TheVariants as order
 use Rattle.searches.specs.declared.verdict.Verdict.TheVariants as verdict
 use Rattle.searches.specs.Verdict.{HoldsIn}
@@ -43,10 +44,13 @@ one_lock =
 
 abbrev its_calls : Program
 its_calls =
-    of_lines 1 (0 ∷ 2 ∷ [])
-    (line (call.Acquire 0 None) 1 false
-    ∷ line (call.Release 0 1) 3 false
+    of_lines 1 (2 ∷ 5 ∷ [])
+    (line call.Drain 6 false
+    ∷ line call.Drain 6 false
     ∷ line (call.Acquire 0 None) 3 false
+    ∷ line (call.Release 0 1) 6 false
+    ∷ line call.Drain 6 false
+    ∷ line (call.Acquire 0 None) 6 false
     ∷ [])
 
 it_spells_them : calls_spelled one_lock ≡ Some its_calls
@@ -59,28 +63,46 @@ they_are_covered = record { calls = each; ticks = ticking }
     each : (place : ℕ) (one : Line) → slice_get its_calls.lines place ≡ Some one
         → IsCoveredCall one.call
     each zero one is =
-        let same : line (call.Acquire 0 None) 1 false ≡ one = cc in
+        let same : line call.Drain 6 false ≡ one = cc in
         subst (λ (l : Line). IsCoveredCall l.call) same tt
     each (suc zero) one is =
-        let same : line (call.Release 0 1) 3 false ≡ one = cc in
+        let same : line call.Drain 6 false ≡ one = cc in
         subst (λ (l : Line). IsCoveredCall l.call) same tt
     each (suc (suc zero)) one is =
         let same : line (call.Acquire 0 None) 3 false ≡ one = cc in
         subst (λ (l : Line). IsCoveredCall l.call) same tt
-    each (suc (suc (suc more))) one is = absurd cc
+    each (suc (suc (suc zero))) one is =
+        let same : line (call.Release 0 1) 6 false ≡ one = cc in
+        subst (λ (l : Line). IsCoveredCall l.call) same tt
+    each (suc (suc (suc (suc zero)))) one is =
+        let same : line call.Drain 6 false ≡ one = cc in
+        subst (λ (l : Line). IsCoveredCall l.call) same tt
+    each (suc (suc (suc (suc (suc zero))))) one is =
+        let same : line (call.Acquire 0 None) 6 false ≡ one = cc in
+        subst (λ (l : Line). IsCoveredCall l.call) same tt
+    each (suc (suc (suc (suc (suc (suc more)))))) one is = absurd cc
 
     ticking : (place : ℕ) (one : Line) → slice_get its_calls.lines place ≡ Some one
         → TicksSo place one one.call
     ticking zero one is =
-        let same : line (call.Acquire 0 None) 1 false ≡ one = cc in
+        let same : line call.Drain 6 false ≡ one = cc in
         subst (λ (l : Line). TicksSo 0 l l.call) same tt
     ticking (suc zero) one is =
-        let same : line (call.Release 0 1) 3 false ≡ one = cc in
+        let same : line call.Drain 6 false ≡ one = cc in
         subst (λ (l : Line). TicksSo 1 l l.call) same tt
     ticking (suc (suc zero)) one is =
         let same : line (call.Acquire 0 None) 3 false ≡ one = cc in
         subst (λ (l : Line). TicksSo 2 l l.call) same tt
-    ticking (suc (suc (suc more))) one is = absurd cc
+    ticking (suc (suc (suc zero))) one is =
+        let same : line (call.Release 0 1) 6 false ≡ one = cc in
+        subst (λ (l : Line). TicksSo 3 l l.call) same tt
+    ticking (suc (suc (suc (suc zero)))) one is =
+        let same : line call.Drain 6 false ≡ one = cc in
+        subst (λ (l : Line). TicksSo 4 l l.call) same tt
+    ticking (suc (suc (suc (suc (suc zero))))) one is =
+        let same : line (call.Acquire 0 None) 6 false ≡ one = cc in
+        subst (λ (l : Line). TicksSo 5 l l.call) same tt
+    ticking (suc (suc (suc (suc (suc (suc more)))))) one is = absurd cc
 
 -- So where the answer is `ends`, the law says of its calls that none of their runs deadlocks.
 no_run_of_them_deadlocks : ExploredScriptsEnd → (most states : ℕ)
@@ -95,11 +117,14 @@ no_run_of_them_deadlocks law most states ends =
 abbrev with_a_pipe : Mode → Program
 with_a_pipe mode =
     record {
-      lines = line (call.Read 0 4 None) 3 false
-          ∷ line (call.Write 0 1 None) 2 false
-          ∷ line (call.Hangup 0) 3 false
+      lines = line call.Drain 6 false
+          ∷ line call.Drain 6 false
+          ∷ line (call.Read 0 4 None) 6 false
+          ∷ line call.Drain 6 false
+          ∷ line (call.Write 0 1 None) 5 false
+          ∷ line (call.Hangup 0) 6 false
           ∷ [];
-      starts = 0 ∷ 1 ∷ [];
+      starts = 2 ∷ 4 ∷ [];
       values = [];
       pipes = record { limit = 1; mode = mode } ∷ [];
       rendez = 1;
@@ -108,6 +133,7 @@ with_a_pipe mode =
 it_spells_messages : calls_spelled
     (codes "world 2 1\npipe 1\nprocess 0\nread 0 4\nprocess 1\nwrite 0 61\nhangup 0\n")
     ≡ Some (with_a_pipe Message)
+unfolding decode_pairs
 it_spells_messages = refl
 
 abbrev one_stream : List ℕ
@@ -115,6 +141,7 @@ one_stream =
     codes "world 2 1\npipe 1 stream\nprocess 0\nread 0 4\nprocess 1\nwrite 0 61\nhangup 0\n"
 
 it_spells_a_stream : calls_spelled one_stream ≡ Some (with_a_pipe Stream)
+unfolding decode_pairs
 it_spells_a_stream = refl
 
 -- its calls are covered, in either mode
@@ -124,28 +151,46 @@ pipes_are_covered mode = record { calls = each; ticks = ticking }
     each : (place : ℕ) (one : Line) → slice_get (with_a_pipe mode).lines place ≡ Some one
         → IsCoveredCall one.call
     each zero one is =
-        let same : line (call.Read 0 4 None) 3 false ≡ one = cc in
+        let same : line call.Drain 6 false ≡ one = cc in
         subst (λ (l : Line). IsCoveredCall l.call) same tt
     each (suc zero) one is =
-        let same : line (call.Write 0 1 None) 2 false ≡ one = cc in
+        let same : line call.Drain 6 false ≡ one = cc in
         subst (λ (l : Line). IsCoveredCall l.call) same tt
     each (suc (suc zero)) one is =
-        let same : line (call.Hangup 0) 3 false ≡ one = cc in
+        let same : line (call.Read 0 4 None) 6 false ≡ one = cc in
         subst (λ (l : Line). IsCoveredCall l.call) same tt
-    each (suc (suc (suc more))) one is = absurd cc
+    each (suc (suc (suc zero))) one is =
+        let same : line call.Drain 6 false ≡ one = cc in
+        subst (λ (l : Line). IsCoveredCall l.call) same tt
+    each (suc (suc (suc (suc zero)))) one is =
+        let same : line (call.Write 0 1 None) 5 false ≡ one = cc in
+        subst (λ (l : Line). IsCoveredCall l.call) same tt
+    each (suc (suc (suc (suc (suc zero))))) one is =
+        let same : line (call.Hangup 0) 6 false ≡ one = cc in
+        subst (λ (l : Line). IsCoveredCall l.call) same tt
+    each (suc (suc (suc (suc (suc (suc more)))))) one is = absurd cc
 
     ticking : (place : ℕ) (one : Line) → slice_get (with_a_pipe mode).lines place ≡ Some one
         → TicksSo place one one.call
     ticking zero one is =
-        let same : line (call.Read 0 4 None) 3 false ≡ one = cc in
+        let same : line call.Drain 6 false ≡ one = cc in
         subst (λ (l : Line). TicksSo 0 l l.call) same tt
     ticking (suc zero) one is =
-        let same : line (call.Write 0 1 None) 2 false ≡ one = cc in
+        let same : line call.Drain 6 false ≡ one = cc in
         subst (λ (l : Line). TicksSo 1 l l.call) same tt
     ticking (suc (suc zero)) one is =
-        let same : line (call.Hangup 0) 3 false ≡ one = cc in
+        let same : line (call.Read 0 4 None) 6 false ≡ one = cc in
         subst (λ (l : Line). TicksSo 2 l l.call) same tt
-    ticking (suc (suc (suc more))) one is = absurd cc
+    ticking (suc (suc (suc zero))) one is =
+        let same : line call.Drain 6 false ≡ one = cc in
+        subst (λ (l : Line). TicksSo 3 l l.call) same tt
+    ticking (suc (suc (suc (suc zero)))) one is =
+        let same : line (call.Write 0 1 None) 5 false ≡ one = cc in
+        subst (λ (l : Line). TicksSo 4 l l.call) same tt
+    ticking (suc (suc (suc (suc (suc zero))))) one is =
+        let same : line (call.Hangup 0) 6 false ≡ one = cc in
+        subst (λ (l : Line). TicksSo 5 l l.call) same tt
+    ticking (suc (suc (suc (suc (suc (suc more)))))) one is = absurd cc
 
 -- So where the answer is `ends`, the law says so of its calls, a stream's too.
 no_run_of_a_stream_deadlocks : ExploredScriptsEnd → (most states : ℕ)

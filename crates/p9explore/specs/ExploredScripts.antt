@@ -1,4 +1,4 @@
--- What the answer `ends` by calls says of the library's calls.
+-- What the answer `ends` says of the library's calls.
 use Rattle.std.specs.Prelude.{◌≡◌, ℕ, true, List, Option, Some, None}
 use Rattle.scripts.specs.Device.{Devices}
 use Rattle.searches.specs.declared.order.Order.{Order}
@@ -17,27 +17,23 @@ use Rattle.explored_calls.specs.TimedLibrary.{timed_library_of}
 use Rattle.p9explore.specs.declared.asked.Asked.{Asked}
 use Rattle.p9explore.specs.declared.run.TheConstants.{GOOD}
 use Rattle.p9explore.specs.Answering.{Ends, IsInput}
-use Rattle.p9explore.specs.ByCalls.{lowered}
 use Rattle.p9explore.specs.LaidLines.{laid_program}
-use Rattle.p9explore.specs.Laying.{BlocksRead, blocks_spelled}
-use Rattle.p9explore.specs.Laying.BlocksRead.{Lays, LaysNot}
-use Rattle.p9explore.specs.Reading.{Read, spelled}
-use Rattle.p9explore.specs.Reading.Read.{FaultAt, Spells}
+use Rattle.p9explore.specs.Laying.{Read, spelled}
+use Rattle.p9explore.specs.Laying.Read.{FaultAt, Spells}
 use Rattle.p9explore.specs.Source.{source_of}
 
--- ---- the program of calls of a script
+-- ---- the program of a script
 
-abbrev pub calls_read : Read → BlocksRead → Option Program
-calls_read (Spells program) blocks = Some (lowered program)
-calls_read (FaultAt number) (Lays laid) = Some (laid_program laid)
-calls_read (FaultAt number) (LaysNot other) = None
+abbrev pub calls_read : Read → Option Program
+calls_read (Spells laid) = Some (laid_program laid)
+calls_read (FaultAt number) = None
 
--- Own: what a script spells by calls, with blocks or without.
+-- Own: the program of calls that a script spells.
 abbrev pub calls_spelled : List ℕ → Option Program
-calls_spelled script = calls_read (spelled script) (blocks_spelled script)
+calls_spelled script = calls_read (spelled script)
 
--- Each program of calls that a script spells can be made: its calls name what is there, and its
--- numbers are in range.
+-- Each program that a script spells can be made: its calls name what is there, and its numbers are
+-- in range.
 abbrev pub ScriptsCanBeMade : Type 0
 ScriptsCanBeMade =
     (script : List ℕ) (program : Program)
@@ -60,7 +56,7 @@ NoCoveredRunDeadlocks program =
     → IdleStopAtRest (timed_library_of program given objects) (MayIdleIn IsTick) LeavesTimedUnworn
     (λ state. rests_at (is_at_head program) state ≡ true)
 
--- So it is of what a script spells, where the verdict by calls is that it ends.
+-- So it is of what a script spells, where the verdict is that it ends.
 abbrev pub ExploredScriptsEnd : Type 0
 ExploredScriptsEnd =
     (script : List ℕ) (program : Program) (order : Order) (most states : ℕ)
@@ -68,7 +64,7 @@ ExploredScriptsEnd =
     → HoldsIn (system_of program) order most (verdict.Ends states)
     → NoCoveredRunDeadlocks program
 
--- a run has read a script whose program of calls makes no run that deadlocks
+-- a run has read a script whose program makes no run that deadlocks
 pub record HasReadSuch (devices : Devices) : Type 0 where
   pub input : List ℕ
   pub read : IsInput devices input
@@ -76,10 +72,9 @@ pub record HasReadSuch (devices : Devices) : Type 0 where
   pub spells : calls_spelled (source_of input).text ≡ Some program
   pub ends : NoCoveredRunDeadlocks program
 
--- And so it is of what a run by calls has read that ends with the status 0.
+-- And so it is of what a run has read that ends with the status 0.
 abbrev pub GoodRunsEnd : Type 0
 GoodRunsEnd =
     (asked : Asked) (devices : Devices)
-    → asked.by_calls ≡ true
     → Ends asked devices GOOD
     → HasReadSuch devices
