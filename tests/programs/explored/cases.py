@@ -131,7 +131,7 @@ TWICE = [("sema gate 1 2", "sema gate 1 2", 3), ("sema gate 1 2", "sema 1 2", 3)
          ("space hall", "sema gate 1 2", 2), ("clock", "clock", 3), ("clock hall", "clock", 2), ("clock", "space 1", 3),
          ("clock", "space hall 1", 3), ("process 0", "clock", 3), ("process clock", "clock", 3), ("drain", "clock", 2),
          ("sema gate 1 2 3", "sema door 1 1", 2), ("pipe jobs 1 slow", "sema door 1 1", 2)]
-REFUSED = [["frob"], ["--states"], ["--states", "x"], ["--states", "-1"], ["--states", "1", "1"], ["--charts"], ["--Chart"],
+REFUSED = [["frob"], ["--calls"], ["--states"], ["--states", "x"], ["--states", "-1"], ["--states", "1", "1"], ["--charts"], ["--Chart"],
            ["--chart", "--chart"], ["--chart", "1"], ["--states", "--chart"], ["--chart", "--states"], ["-c"], ["--chart=1"],
            ["--states", "1", "--chart", "--chart"], ["--chart", "--states", "1", "1"], ["--Any"], ["--any", "--any"],
            ["--any=1"], ["--any", "1"], ["--states", "--any"], ["--states", "1", "--any", "--any"],
@@ -211,19 +211,19 @@ TICKS = ["process 0\nticks 5\nrepeat 2\ndrain\nend\nsleep 0 0\n", "process 0\nti
 
 
 def deadlines():
-    """The search finds in each script what is so by argument, and p9explore what the search finds."""
+    """The search finds in each script by events what is so by argument."""
     for world, lines, *known in DEADLINES:
         script = f"world {world}\nclock\n{lines}"
         found = search(Machine(program_of(script)), LIMIT)
         said = [found.states if known[0] else None, found.verdict, found.steps, found.ends]
         if said != known:
             fail(f"the search finds {said} where {known} is so:\n{script}")
-        yield script, found
+        yield script
     for lines in TICKS:
         program = program_of(f"{ONE_CLOCK}{lines}")
         if run(f"{ONE_CLOCK}{lines}") != run(program.script()):
             fail(f"it says different things of these scripts:\n{ONE_CLOCK}{lines}\n{program.script()}")
-        yield program.script(), search(Machine(program), LIMIT)
+        yield program.script()
 
 
 def cases():
@@ -262,17 +262,17 @@ def cases():
         program = program_of(f"{BRANCHED}{lines}")
         if run(f"{BRANCHED}{lines}") != run(program.script()):
             fail(f"it says different things of these scripts:\n{BRANCHED}{lines}\n{program.script()}")
-        yield agrees("branches", program, search(Machine(program), LIMIT))
-    for script, found in deadlines():
-        yield agrees("a deadline", program_of(script), found)
-    yield agrees("two reads that wake", program_of(SAME_WAKES), search(Machine(program_of(SAME_WAKES)), LIMIT))
+        yield agrees("branches", program)
+    for script in deadlines():
+        yield agrees("a deadline", program_of(script))
+    yield agrees("two reads that wake", program_of(SAME_WAKES))
     large = f"world 1 8189\nsema 0 1\npipe 1\nprocess 0\nwrite 0 {'00' * ATOMIC_SIZE}\n"
-    yield agrees("the largest write and the last Rendez", program_of(large), search(Machine(program_of(large)), LIMIT))
-    yield agrees("writes and reads of many sizes", program_of(MANY_SIZES), search(Machine(program_of(MANY_SIZES)), LIMIT))
+    yield agrees("the largest write and the last Rendez", program_of(large))
+    yield agrees("writes and reads of many sizes", program_of(MANY_SIZES))
     if run(MANY_CALLS)[:2] != (STATUS["ends"], f"states {MOST_CALLS + 2}\nends\n"):
         fail(f"it does not play a process that drains {MOST_CALLS + 1} times")
     if run(MANY_BRANCHES)[:2] != (STATUS["ends"], "states 3\nends\n"):
         fail(f"it does not play a process with {MOST_ONS} tries that have one label")
     for crowd in map(program_of, (CROWD, CROWD.replace("\n", "\nspace 1\n", 1), CROWD.replace("\n", "\nclock\n", 1) + "tick 0\n")):
-        yield agrees("as many processes as there may be", crowd, search(Machine(crowd), LIMIT))
-    yield agrees("a write that is delayed", program_of(DELAYED), search(Machine(program_of(DELAYED)), LIMIT))
+        yield agrees("as many processes as there may be", crowd)
+    yield agrees("a write that is delayed", program_of(DELAYED))
