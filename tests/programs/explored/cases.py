@@ -39,17 +39,14 @@ KNOWN = [(DELAYED, "stuck", 23, True), (CAUGHT, "caught", 0, False),
 # A line without a line feed, no room for a Rendez, and declarations twice or out of order are faults, and of which line.
 FAULTS = [(CAUGHT, 6), ("", 1), ("world 1 1", 1), ("world 1 1\nprocess 0\ndrain", 3), ("world 1 8192\nsema 0 1\n", 2),
           ("world 1 1\nspace 1\nspace 1\n", 3), ("world 1 1\nsema 1 1\nspace 1\n", 3)]
-# So are a `repeat` before the first process, in another, with a process in it, or without its end, an `end` too many, and an `end`
-# after which a process has too many calls.
+# So are a `repeat` before the first process, with a process in it, or without its end, and an `end` too many.
 DRAIN, FIRST_MANY = "drain\n", f"process 0\nrepeat {MOST_TIMES}\n"
 REPEATS = [("repeat 2\n", 2), ("end\n", 2), ("process 0\nend\n", 3), ("process 0\nrepeat 2\nend\nend\n", 5),
-           ("process 0\nrepeat 2\nrepeat 2\nend\nend\n", 4), ("process 0\nrepeat 2\nprocess 0\nend\n", 4),
+           ("process 0\nrepeat 2\nrepeat 2\nend\n", 6), ("process 0\nrepeat 2\nprocess 0\nend\n", 4),
            ("process 0\nrepeat 2\nsema 0 1\nend\n", 4), ("process 0\nrepeat 2\ndrain\n", 5), ("process 0\nrepeat 2\n", 4),
-           ("process 0\nrepeat 2\ndrain", 4), ("process 0\nrepeat 2\nend", 4), ("process 0\nrepeat 2\nsleep 1 0\nend\n", 4),
-           (f"{FIRST_MANY}{65 * DRAIN}end\n", 69), (f"process 0\ndrain\nrepeat {MOST_TIMES}\n{64 * DRAIN}end\n", 69),
-           (f"{FIRST_MANY}{64 * DRAIN}end\nrepeat 2\ndrain\nend\n", 71)]
+           ("process 0\nrepeat 2\ndrain", 4), ("process 0\nrepeat 2\nend", 4), ("process 0\nrepeat 2\nsleep 1 0\nend\n", 4)]
 # Branches: before the first process, of no call, of another process, of a call that can't end so or has such an `on` already;
-# labels that no `on` names, or that no line is; and a `repeat` around or between the two.
+# labels that no `on` names, or that no line is; and a `repeat` between the two.
 BRANCHED = "world 2 1\nspace 2\nsema 1 2\nclock\npipe 1\n"
 BRANCH_FAULTS = [
     ("on end a\n", 1), ("a:\n", 1), ("process 0\non end a\n", 2), ("process 0\na:\n", 2), ("process 0\nread 0 1\na:\n", 3),
@@ -62,7 +59,7 @@ BRANCH_FAULTS = [
     ("process 0\nread 0 1\non end a\non interrupted b\na:\n", 6), ("process 0\nread 0 1\non end a\ndrain\na:\ndrain\na:\n", 7),
     ("process 0\nread 0 1\non end a\nb:\na:\n", 4), ("process 0\nread 0 1\non end a\nA:\n", 4),
     ("process 0\nread 0 1\non end a", 3), ("process 0\nread 0 1\non end a\na:", 4), ("process 0\nread 0 1\non end end\nend\n", 4),
-    ("process 0\nrepeat 2\nread 0 1\non end a\nend\na:\n", 4), ("process 0\nread 0 1\nrepeat 2\non end a\nend\na:\n", 4),
+    ("process 0\nread 0 1\nrepeat 2\non end a\nend\na:\n", 4),
     ("process 0\nread 0 1\non end a\nrepeat 2\na:\nend\n", 5), ("process 0\nread 0 1\non end a\nrepeat 2\ndrain\n", 6),
     ("process 0\nread 0 1\non end a\nrepeat 2\nprocess 0\n", 5),
     *((f"process 0\nread 0 1\n{line}\n", 3) for line in NO_ON),
@@ -74,7 +71,7 @@ EACH_CALL = ["sleep 0 0", "wakeup 0 1", "note 0 alarm", "drain", "rendezvous 1 1
 # Branches that are none of these faults: `on` after an `end`, after a label and in a later part of a process; labels that are used
 # again, by two calls and beside other labels, that are words of lines or names, and that nothing stands after.
 BRANCHES = [
-    "process 0\nread 0 1\non end a\na:\nread 0 1\non end a\ndrain\na:\nprocess 1\nread 0 1\non end a\nhangup 0\na:\n",
+    "process 0\nread 0 1\non end a\na:\nread 0 1\non end a\ndrain\na:\nprocess 1\ntry 0\non not_now a\nhangup 0\na:\n",
     "process 0\nread 0 1\non interrupted a\na:\non end a\nhangup 0\na:\nprocess 1\nnote 0 alarm\nwrite 0 -\n",
     "process 0\nrepeat 2\nread 0 1\nend\non end end\nrepeat 3\nwrite 0 61\nread 0 1\nend\nend:\nprocess 1\nwrite 0 61\nhangup 0\n",
     "process 0\nread 0 1\nrepeat 2\nend\non end a\nrendezvous 0 0\na:\nprocess 1\nhangup 0\n",
@@ -105,10 +102,10 @@ process 2
 note 0 alarm
 note 0 alarm
 """
-# One label for as many calls as may have an `on`, of which the second takes its process there; one more, before and after the label.
+# One label for as many calls as may have an `on` that waits for it, of which the second takes its process there; and one more.
 FIRST_TRIES = "world 1 1\nsema 1 1\nprocess 0\n" + MOST_ONS * "try 0\non not_now over\n"
 MANY_BRANCHES = f"{FIRST_TRIES}over:\n"
-# A process with as many calls as an `end` may give it, a `repeat` of nothing, and a call more.
+# A process with many calls, a `repeat` of nothing, and a call more.
 MANY_CALLS = f"world 1 1\n{FIRST_MANY}{MOST_CALLS // MOST_TIMES * DRAIN}end\nrepeat 7\nend\ndrain\n"
 # Names: a script before its last line, and last lines of which each is a fault there, and after them those that are none.
 GATE = "world 2 2\nspace hall 2\nsema gate 1 2\nclock\npipe jobs 1\nprocess alice\nsleep room 0\nprocess bob\nnote alice alarm\n"
@@ -238,9 +235,7 @@ def cases():
         is_fault("a repeat", f"world 1 1\n{lines}", line)
     for lines, line in BRANCH_FAULTS:
         is_fault("a branch", f"{BRANCHED}{lines}", BRANCHED.count("\n") + line)
-    for script in FIRST_TRIES, MANY_BRANCHES:
-        script += "try 0\non not_now over\n"
-        is_fault("one branch too many", script, script.count("\n"))
+    is_fault("one branch too many", f"{FIRST_TRIES}try 0\non not_now over\n", FIRST_TRIES.count("\n") + 2)
     for call, answer in itertools.product(EACH_CALL, ANSWERS):
         script = f"{BRANCHED}process 0\n{call}\non {answer} a\na:\n"
         if call.split(" ")[0] not in ANSWERS[answer]:
