@@ -1,6 +1,6 @@
 -- The steps of the explorer's machine at a direction of a pipe, by lines.
 use Rattle.std.proofs.Common.{◌≡◌, ◌≢◌, ◌⊎◌, inl, inr, ℕ, ◌+◌, ◌-◌, ◌<◌, ◌==◌, Bool, if◌then◌else◌}
-use Rattle.std.proofs.Common.{true}
+use Rattle.std.proofs.Common.{◌&&◌, true}
 use Rattle.std.proofs.Common.{false, Option, Some, None, List, length, nat_lt}
 use Rattle.std.proofs.Common.{refl, sym, ap, ◌∙◌, subst, arith}
 use Rattle.std.specs.Prelude.{slice_get, slice_set}
@@ -9,6 +9,7 @@ use Rattle.searches.specs.Schedule.{position_of}
 use Rattle.sync_base.specs.declared.note.Note.TheVariants.{ClosedPipe}
 use Rattle.sync_base.specs.declared.note.NoteSet.{NoteSet}
 use Rattle.sync_base.specs.NoteSet.{joined, no_notes, only}
+use Rattle.calls.specs.declared.call.Call.{Call}
 use Rattle.calls.specs.declared.call.Call.TheVariants as call
 use Rattle.calls.specs.declared.direction.Found.{Found}
 use Rattle.calls.specs.declared.direction.Found.TheVariants as found
@@ -19,14 +20,13 @@ use Rattle.calls.specs.declared.process.Process.{Process}
 use Rattle.calls.specs.declared.process.Timer.TheVariants as timer
 use Rattle.calls.specs.declared.process.Want.{Want}
 use Rattle.calls.specs.Calls.{deadline_of, is_try_read, pipe_of, room_of}
-use Rattle.calls.specs.Lines.{has_notes, onto}
+use Rattle.calls.specs.Lines.{after_ending, has_notes, onto}
 use Rattle.calls.specs.Machine.{system_of}
-use Rattle.calls.specs.Pipes.{Direction, accepted, finds, hung, is_answer, stood}
+use Rattle.calls.specs.Pipes.{Direction, accepted, finds, hung, is_answer, opened, stood}
 use Rattle.calls.specs.Pipes.{taken as read_from}
 use Rattle.calls.specs.Position.{Position, become, becomes, begun, is_answered}
 use Rattle.calls.specs.Position.{end_found, finds_at, has_room_at, is_hung_at, is_now, is_readable}
 use Rattle.calls.specs.Position.{is_writable, left_at, read, read_by, read_bytes, read_nothing}
-use Rattle.calls.specs.Position.{read_on}
 use Rattle.calls.specs.Program.{Program, is_stream_at, limit_at, procs_of}
 use Rattle.calls.specs.Timers.{blocked, ended, failed, is_early}
 use Rattle.explored_calls.proofs.Arrivals.{at_else, at_self}
@@ -35,7 +35,7 @@ use Rattle.explored_calls.proofs.ExplorerSteps.{yes}
 use Rattle.explored_calls.proofs.Lists.{at_one, has_become, has_same}
 use Rattle.explored_calls.proofs.Queued.{AreLines, Halt, Queued, Shows, is_for, process_of}
 use Rattle.explored_calls.proofs.Queued.{stands_by}
-use Rattle.explored_calls.proofs.Queued.Amid.{Blocks, Wrote}
+use Rattle.explored_calls.proofs.Queued.Amid.{Blocks, ReadsOn, Wrote}
 use Rattle.explored_calls.proofs.Queued.Halt.{Free, Stays}
 
 -- a process that stands in no line before and after it is here now, and stands so; the directions
@@ -127,6 +127,23 @@ Makes halt = (halt ≡ Free) ⊎ (halt ≡ Stays Blocks)
 pub makes_outside : (halt : Halt) → Makes halt → IsOutside halt
 makes_outside halt (inl is) what = ap (is_for what) is
 makes_outside halt (inr is) what = ap (is_for what) is
+
+-- a read of so many bytes, with room for so many, that stands so
+pub data Fills (pipe size room : ℕ) (made : Call) (halt : Halt) : Type 0 where
+  -- it makes its call
+  First : halt ≡ Free → room ≡ size → Fills pipe size room made halt
+  -- it waits, and makes it again
+  Again : halt ≡ Stays Blocks → room ≡ size → made ≡ call.Read pipe size None
+      → Fills pipe size room made halt
+  -- it has taken a part, and goes on
+  Goes : halt ≡ Stays (ReadsOn room) → Fills pipe size room made halt
+
+-- such a process stands in no line
+pub fills_outside : (pipe size room : ℕ) (made : Call) (halt : Halt)
+    → Fills pipe size room made halt → IsOutside halt
+fills_outside pipe size room made halt (First is same) what = ap (is_for what) is
+fills_outside pipe size room made halt (Again is same so) what = ap (is_for what) is
+fills_outside pipe size room made halt (Goes is) what = ap (is_for what) is
 
 module _ (program : Program) where
   -- a process that makes the call of this line, for the first time or again
@@ -365,111 +382,198 @@ module _ (program : Program) where
 
       -- ---- a read
 
-      -- a read that waits, or one that does not
-      module _ (room : ℕ)
-          (made : line.call ≡ call.Read pipe room None ⊎ line.call ≡ call.TryRead pipe room) where
+      -- a read that waits, or one that does not, of so many bytes
+      module _ (size : ℕ)
+          (made : line.call ≡ call.Read pipe size None ⊎ line.call ≡ call.TryRead pipe size) where
         -- no read is a tick that rests
-        pub read_early : (now : Position) → is_early now.processes line.call ≡ false
+        read_early : (now : Position) → is_early now.processes line.call ≡ false
         read_early now = by made
           where
-            by : line.call ≡ call.Read pipe room None ⊎ line.call ≡ call.TryRead pipe room
+            by : line.call ≡ call.Read pipe size None ⊎ line.call ≡ call.TryRead pipe size
                 → is_early now.processes line.call ≡ false
             by (inl is) = ap (is_early now.processes) is
             by (inr is) = ap (is_early now.processes) is
 
-        read_begins : begun program at pid line line.call ≡ read program at pid line room
+        read_begins : begun program at pid line line.call ≡ read program at pid line size
         read_begins = by made
           where
-            by : line.call ≡ call.Read pipe room None ⊎ line.call ≡ call.TryRead pipe room
-                → begun program at pid line line.call ≡ read program at pid line room
+            by : line.call ≡ call.Read pipe size None ⊎ line.call ≡ call.TryRead pipe size
+                → begun program at pid line line.call ≡ read program at pid line size
             by (inl is) = ap (begun program at pid line) is
             by (inr is) = ap (begun program at pid line) is
 
-        has_room_for : room_of line.call ≡ room
+        -- it has room for as many bytes at first
+        pub has_room_for : room_of line.call ≡ size
         has_room_for = by made
           where
-            by : line.call ≡ call.Read pipe room None ⊎ line.call ≡ call.TryRead pipe room
-                → room_of line.call ≡ room
+            by : line.call ≡ call.Read pipe size None ⊎ line.call ≡ call.TryRead pipe size
+                → room_of line.call ≡ size
             by (inl is) = ap room_of is
             by (inr is) = ap room_of is
 
-        has_all : nat_lt room (room_of line.call) ≡ false
-        has_all =
-            let same = has_room_for in
-            ap (nat_lt room) same ∙ (let none : nat_lt room room ≡ false = grind (arith, nat_tests)
-            in none)
+        -- the next step of the read, with room for so many bytes, shows this position
+        abbrev pub ReadShowing : ℕ → Queued → Type 0
+        ReadShowing room next = Shows (procs_of program) next (read program at pid line room)
 
         -- what it leaves, by what it finds
-        read_is : (what : Found) → finds x ≡ what
-            → begun program at pid line line.call
+        read_is : (room : ℕ) (what : Found) → finds x ≡ what
+            → read program at pid line room
             ≡ read_by (read_bytes program at pid line room)
             (is_now at pid (ended line (end_found line room))) (read_nothing at pid line room) what
-        read_is what is =
-            read_begins
-            ∙ (ap (λ (o : Option Direction). read_by (read_bytes program at pid line room)
+        read_is room what is =
+            ap (λ (o : Option Direction). read_by (read_bytes program at pid line room)
             (is_now at pid (ended line (end_found line room))) (read_nothing at pid line room)
             (finds_at o)) here
             ∙ ap (read_by (read_bytes program at pid line room)
-            (is_now at pid (ended line (end_found line room))) (read_nothing at pid line room)) is)
+            (is_now at pid (ended line (end_found line room))) (read_nothing at pid line room)) is
 
         -- one that waits is answered where it finds something
-        pub read_answered : (what : Found) → finds x ≡ what → is_answer what ≡ true
-            → line.call ≡ call.Read pipe room None
+        read_answered : is_answer (finds x) ≡ true → line.call ≡ call.Read pipe size None
             → is_answered program at line.call ≡ true
-        read_answered what is answer so =
+        read_answered answer so =
             ap (is_answered program at) so
             ∙ (ap (λ (n : ℕ). is_readable (slice_get at.pipes n)) (sym at_call)
-            ∙ (ap is_readable here ∙ (ap is_answer is ∙ answer)))
+            ∙ (ap is_readable here ∙ answer))
 
-        -- it takes the bytes of a message
-        pub bytes_shown : is_stream_at program pipe ≡ false → pid < procs_of program
-            → IsOutside (q.waits pid) → finds x ≡ found.Bytes
-            → Shows (procs_of program) (next_at line.next Free (q.notes pid)
-            (slice_set q.pipes pipe (read_from room x))) (begun program at pid line line.call)
-        bytes_shown message low outside is =
-            subst (Shows (procs_of program) _) (sym (read_is found.Bytes is))
-            (shows_halted (procs_of program) q pid line.next Free (q.notes pid) _ low outside
-            (λ what. refl) at reaches.shows _
-            (ap (λ (b : Bool). read_on b line
-            (left_at room (slice_get at.pipes (pipe_of line.call))) (process_of q pid))
-            (ap (is_stream_at program) at_call ∙ message)) _ (becomes_here (read_from room)))
+        -- ---- what a step of it shows
 
-        -- it finds the end
-        pub end_shown : pid < procs_of program → IsOutside (q.waits pid) → finds x ≡ found.End
-            → Shows (procs_of program) (next_at line.closed Free (q.notes pid) q.pipes)
-            (begun program at pid line line.call)
-        end_shown low outside is =
-            subst (Shows (procs_of program) _) (sym (read_is found.End is))
-            (shows_halted (procs_of program) q pid line.closed Free (q.notes pid) _ low outside
-            (λ what. refl) at reaches.shows _
-            (ap (λ (e : Ending). ended line e (process_of q pid)) (no _ _ _ has_all)) _
-            reaches.shows.pipes)
+        module _ (room : ℕ) (low : pid < procs_of program) (outside : IsOutside (q.waits pid)) where
+          -- so much room is left after a part
+          abbrev left : ℕ
+          left = room - (opened x).rest
 
-        -- or nothing, and waits
-        pub nothing_shown : pid < procs_of program → IsOutside (q.waits pid)
-            → finds x ≡ found.Nothing → line.call ≡ call.Read pipe room None
-            → Shows (procs_of program) (next_at (q.place pid) (Stays Blocks) (q.notes pid) q.pipes)
-            (begun program at pid line line.call)
-        nothing_shown low outside is so =
-            subst (Shows (procs_of program) _)
-            (sym (read_is found.Nothing is
-            ∙ (no _ _ _ has_all ∙ no _ _ _ (ap is_try_read so))))
-            (shows_halted (procs_of program) q pid (q.place pid) (Stays Blocks) (q.notes pid) _ low
-            outside (λ what. refl) at reaches.shows _
-            (ap (λ (d : Option ℕ). blocked d (process_of q pid)) (ap deadline_of so)) _
-            reaches.shows.pipes)
+          -- whether it goes on after it
+          on_is : (is_stream_at program (pipe_of line.call)
+              && nat_lt 0 (left_at room (slice_get at.pipes (pipe_of line.call))))
+              ≡ (is_stream_at program pipe && nat_lt 0 left)
+          on_is =
+              ap (λ (n : ℕ). is_stream_at program n
+              && nat_lt 0 (left_at room (slice_get at.pipes (pipe_of line.call)))) at_call
+              ∙ ap (λ (o : Option Direction). is_stream_at program pipe && nat_lt 0 (left_at room
+              o)) here
 
-        -- or goes the other way
-        pub other_shown : pid < procs_of program → IsOutside (q.waits pid)
-            → finds x ≡ found.Nothing → line.call ≡ call.TryRead pipe room
-            → Shows (procs_of program) (next_at line.other Free (q.notes pid) q.pipes)
-            (begun program at pid line line.call)
-        other_shown low outside is so =
-            subst (Shows (procs_of program) _)
-            (sym (read_is found.Nothing is
-            ∙ (no _ _ _ has_all ∙ yes _ _ _ (ap is_try_read so))))
-            (shows_halted (procs_of program) q pid line.other Free (q.notes pid) _ low outside
-            (λ what. refl) at reaches.shows (onto line.other) refl _ reaches.shows.pipes)
+          -- it takes a part, and goes on
+          pub part_shown : (more : ℕ) → left ≡ more → finds x ≡ found.Bytes
+              → (is_stream_at program pipe && nat_lt 0 more) ≡ true
+              → ReadShowing room (next_at (q.place pid) (Stays (ReadsOn more)) (q.notes pid)
+              (slice_set q.pipes pipe (read_from room x)))
+          part_shown more same is on =
+              subst (Shows (procs_of program) _) (sym (read_is room found.Bytes is))
+              (shows_halted (procs_of program) q pid (q.place pid) (Stays (ReadsOn more))
+              (q.notes pid) _ low outside (λ what. refl) at reaches.shows _
+              (yes _ _ _ (on_is
+              ∙ (ap (λ (n : ℕ). is_stream_at program pipe && nat_lt 0 n) same ∙ on))
+              ∙ ap (λ (n : ℕ). process_so q pid (q.place pid) (Stays (ReadsOn n)) (q.notes pid))
+              (ap (left_at room) here ∙ same)) _ (becomes_here (read_from room)))
+
+          -- or its last part
+          pub last_shown : (more : ℕ) → left ≡ more → finds x ≡ found.Bytes
+              → (is_stream_at program pipe && nat_lt 0 more) ≡ false
+              → ReadShowing room (next_at line.next Free (q.notes pid)
+              (slice_set q.pipes pipe (read_from room x)))
+          last_shown more same is over =
+              subst (Shows (procs_of program) _) (sym (read_is room found.Bytes is))
+              (shows_halted (procs_of program) q pid line.next Free (q.notes pid) _ low outside
+              (λ what. refl) at reaches.shows _
+              (no _ _ _ (on_is
+              ∙ (ap (λ (n : ℕ). is_stream_at program pipe && nat_lt 0 n) same ∙ over))) _
+              (becomes_here (read_from room)))
+
+          -- it finds the end
+          pub end_shown : (ends : Ending) → end_found line room ≡ ends → finds x ≡ found.End
+              → ReadShowing room (next_at (after_ending line ends) Free (q.notes pid) q.pipes)
+          end_shown ends how is =
+              subst (Shows (procs_of program) _) (sym (read_is room found.End is))
+              (shows_halted (procs_of program) q pid (after_ending line ends) Free (q.notes pid) _
+              low outside (λ what. refl) at reaches.shows _
+              (ap (λ (e : Ending). ended line e (process_of q pid)) how) _ reaches.shows.pipes)
+
+          -- it finds nothing, and has some
+          pub some_shown : nat_lt room size ≡ true → finds x ≡ found.Nothing
+              → ReadShowing room (next_at line.next Free (q.notes pid) q.pipes)
+          some_shown some is =
+              subst (Shows (procs_of program) _)
+              (sym (read_is room found.Nothing is
+              ∙ yes _ _ _ (ap (nat_lt room) has_room_for ∙ some)))
+              (shows_halted (procs_of program) q pid line.next Free (q.notes pid) _ low outside
+              (λ what. refl) at reaches.shows (ended line ending.Done) refl _ reaches.shows.pipes)
+
+          -- or none, and waits
+          pub nothing_shown : nat_lt room size ≡ false → finds x ≡ found.Nothing
+              → line.call ≡ call.Read pipe size None
+              → ReadShowing room (next_at (q.place pid) (Stays Blocks) (q.notes pid) q.pipes)
+          nothing_shown none is so =
+              subst (Shows (procs_of program) _)
+              (sym (read_is room found.Nothing is
+              ∙ (no _ _ _ (ap (nat_lt room) has_room_for ∙ none)
+              ∙ no _ _ _ (ap is_try_read so))))
+              (shows_halted (procs_of program) q pid (q.place pid) (Stays Blocks) (q.notes pid) _
+              low outside (λ what. refl) at reaches.shows _
+              (ap (λ (d : Option ℕ). blocked d (process_of q pid)) (ap deadline_of so)) _
+              reaches.shows.pipes)
+
+          -- or goes the other way
+          pub other_shown : nat_lt room size ≡ false → finds x ≡ found.Nothing
+              → line.call ≡ call.TryRead pipe size
+              → ReadShowing room (next_at line.other Free (q.notes pid) q.pipes)
+          other_shown none is so =
+              subst (Shows (procs_of program) _)
+              (sym (read_is room found.Nothing is
+              ∙ (no _ _ _ (ap (nat_lt room) has_room_for ∙ none)
+              ∙ yes _ _ _ (ap is_try_read so))))
+              (shows_halted (procs_of program) q pid line.other Free (q.notes pid) _ low outside
+              (λ what. refl) at reaches.shows (onto line.other) refl _ reaches.shows.pipes)
+
+        -- ---- a step of it
+
+        module _ (room : ℕ) (next : Queued) (low : pid < procs_of program)
+            (line_is : slice_get program.lines (q.place pid) ≡ Some line)
+            (shows : ReadShowing room next) where
+          -- with room for all
+          begin_shows : room ≡ size
+              → Shows (procs_of program) next (begun program at pid line line.call)
+          begin_shows same =
+              subst (Shows (procs_of program) next)
+              (ap (read program at pid line) same ∙ sym read_begins) shows
+
+          -- that of a read that goes on
+          more_step : q.waits pid ≡ Stays (ReadsOn room) → Reaches program next
+          more_step goes =
+              moves_on program q next reaches pid
+              (record {
+                there = omega arith;
+                ready = rw (
+                  reaches.shows.is_open,
+                  below,
+                  reaches.shows.processes.each pid low,
+                  line_is,
+                  goes,
+                ) refl;
+              })
+              (subst (Shows (procs_of program) next)
+              (sym (rw (
+                below_both,
+                below,
+                reaches.shows.processes.each pid low,
+                line_is,
+                goes,
+              ) (rw (reaches.shows.processes.each pid low) refl))) shows)
+            where
+              below : nat_lt pid (procs_of program) ≡ true
+              below = grind (arith, nat_tests)
+
+              below_both : nat_lt pid (procs_of program + procs_of program) ≡ true
+              below_both = grind (arith, nat_tests)
+
+          -- the next step of a read, which finds something if it waits
+          pub reads_on : Fills pipe size room line.call (q.waits pid)
+              → (q.waits pid ≡ Stays Blocks → is_answer (finds x) ≡ true) → Reaches program next
+          reads_on (First free same) answer =
+              making_first next low line_is free read_early (begin_shows same)
+          reads_on (Again blocks same so) answer =
+              making_on next (record { low = low; line_is = line_is; waits = inr blocks })
+              read_early (read_answered (answer blocks) so) (begin_shows same)
+          reads_on (Goes more) answer = more_step more
 
     -- ---- notes end its wait
 

@@ -1,6 +1,6 @@
 -- How a process goes amid a call of a pipe, as the explorer has it, and what the directions are
 -- there.
-use Rattle.std.proofs.Common.{◌≡◌, ◌⊎◌, inl, inr, ℕ, ◌<◌, ◌≤◌, ◌==◌, Bool, true, false}
+use Rattle.std.proofs.Common.{◌≡◌, ◌⊎◌, inl, inr, ℕ, ◌-◌, ◌<◌, ◌≤◌, ◌==◌, Bool, true, false}
 use Rattle.std.proofs.Common.{if◌then◌else◌, Option, Some, None, List, length, Ok, Err}
 use Rattle.std.proofs.Common.{refl, sym, ap, ◌∙◌, arith}
 use Rattle.std.specs.Prelude.{⊤, slice_get, slice_index_or}
@@ -8,14 +8,13 @@ use Rattle.std.proofs.lemmas.Bool.Decides.{nat_tests}
 use Rattle.sync_base.specs.declared.note.Note.TheVariants.{ClosedPipe}
 use Rattle.sync_base.specs.NoteSet.{no_notes, only}
 use Rattle.pipe_dev.specs.declared.answers.ReadAnswer.{ReadAnswer}
-use Rattle.pipe_dev.specs.declared.answers.ReadAnswer.TheVariants as read
 use Rattle.pipe_dev.specs.declared.answers.TryAnswer.{TryAnswer}
-use Rattle.pipe_dev.specs.declared.answers.TryAnswer.TheVariants as try
 use Rattle.block_queue.specs.QueueObject.{last_number}
 use Rattle.waiting.specs.declared.call.Reply.{Reply as WaitReply}
 use Rattle.waiting.specs.declared.call.Reply.TheVariants as reply
 use Rattle.calls.specs.declared.line.Line.{Line}
 use Rattle.calls.specs.declared.process.Want.{Want}
+use Rattle.calls.specs.Lines.{after_ending}
 use Rattle.calls.specs.Pipes.{Direction}
 use Rattle.calls.specs.Program.{Program, limit_at, procs_of}
 use Rattle.call_machines.specs.Ends.{HasEnded}
@@ -23,17 +22,19 @@ use Rattle.call_machines.specs.Programs.{ProgramState}
 use Rattle.call_machines.specs.Programs.ProgramState.{In}
 use Rattle.pipe_machines.specs.HangMachine.{HangState}
 use Rattle.pipe_machines.specs.PipeRuns.{CallState, DirectionState, call_does}
+use Rattle.pipe_machines.specs.PipeRuns.CallOut.{HasRead, HasTried}
 use Rattle.pipe_machines.specs.PipeRuns.CallState.{Writes}
 use Rattle.pipe_machines.specs.ReadMachine.{FillState}
 use Rattle.pipe_machines.specs.Tries.{TryState}
 use Rattle.pipe_machines.specs.WriteMachine.{PutState}
 use Rattle.object_machines.specs.ObjectCalls.{ObjectCall, Objects, opening_pipe, pipe_at}
 use Rattle.object_machines.specs.ObjectCalls.ObjectCall.{AtPipe}
-use Rattle.explored_calls.specs.LibraryCalls.{Spot}
+use Rattle.object_machines.specs.ObjectCalls.ObjectOut.{FromPipe}
+use Rattle.explored_calls.specs.LibraryCalls.{Spot, ended_as}
 use Rattle.explored_calls.proofs.Directions.{IsShown, shown}
 use Rattle.explored_calls.proofs.Lists.{at_one}
 use Rattle.explored_calls.proofs.Queued.{is_for}
-use Rattle.explored_calls.proofs.Queued.Amid.{Blocks, Wrote}
+use Rattle.explored_calls.proofs.Queued.Amid.{Blocks, ReadsOn, Wrote}
 use Rattle.explored_calls.proofs.Running.{Phase, waits_by}
 use Rattle.explored_calls.proofs.Running.Phase.{Has, Is, Served}
 
@@ -52,30 +53,36 @@ PutPhase place line PutState.Noting phase = phase ≡ Served line.closed (only C
 PutPhase place line (PutState.Told (reply.Wait number)) phase = phase ≡ Has place Blocks
 PutPhase place line (PutState.Told other) phase = ⊥
 
--- one that wakes the writers after a read
-abbrev pub OutPhase : Line → WaitReply ReadAnswer → Phase → Type 0
-OutPhase line (reply.Done (read.Got count)) phase = phase ≡ Served line.next no_notes
-OutPhase line other phase = ⊥
+-- a read of so many bytes has read so many: none, so that it begins, or it goes on, with room
+abbrev pub FillPhase : Type 0 → ℕ → ℕ → ℕ → Phase → Type 0
+FillPhase begins place size count phase =
+    ((count ≡ 0) × begins)
+    ⊎ ((count < size) × (phase ≡ Has place (ReadsOn (size - count))))
 
--- one that reads messages
-abbrev pub ReadPhase : ℕ → Line → FillState (WaitReply ReadAnswer) → Phase → Type 0
-ReadPhase place line (FillState.Filling count last) phase =
-    (count ≡ 0) × (last ≡ None) × MayBegin place phase
-ReadPhase place line (FillState.WakingWriters woken number out) phase = OutPhase line out phase
-ReadPhase place line (FillState.Told (Ok (reply.Wait number))) phase = phase ≡ Has place Blocks
-ReadPhase place line (FillState.Told other) phase = ⊥
+-- one that wakes the writers after a read, which is over then, or waits
+abbrev pub OutPhase : ℕ → Line → WaitReply ReadAnswer → Phase → Type 0
+OutPhase place line (reply.Done out) phase =
+    phase ≡ Served (after_ending line (ended_as (Ok (FromPipe (HasRead out))))) no_notes
+OutPhase place line (reply.Wait number) phase = phase ≡ Has place Blocks
+OutPhase place line (reply.Refused why) phase = ⊥
 
--- one that wakes the writers after such a read
-abbrev pub TriedPhase : Line → TryAnswer → Phase → Type 0
-TriedPhase line (try.Got count) phase = phase ≡ Served line.next no_notes
-TriedPhase line other phase = ⊥
+-- one that reads so many bytes
+abbrev pub ReadPhase : ℕ → Line → ℕ → FillState (WaitReply ReadAnswer) → Phase → Type 0
+ReadPhase place line size (FillState.Filling count last) phase =
+    FillPhase (MayBegin place phase) place size count phase
+ReadPhase place line size (FillState.WakingWriters woken number out) phase =
+    OutPhase place line out phase
+ReadPhase place line size (FillState.Told (Ok (reply.Wait number))) phase =
+    phase ≡ Has place Blocks
+ReadPhase place line size (FillState.Told other) phase = ⊥
 
--- one that reads without a wait
-abbrev pub TryPhase : ℕ → Line → FillState TryAnswer → Phase → Type 0
-TryPhase place line (FillState.Filling count last) phase =
-    (count ≡ 0) × (last ≡ None) × (phase ≡ Is place)
-TryPhase place line (FillState.WakingWriters woken number out) phase = TriedPhase line out phase
-TryPhase place line (FillState.Told other) phase = ⊥
+-- one that reads so many bytes without a wait
+abbrev pub TryPhase : ℕ → Line → ℕ → FillState TryAnswer → Phase → Type 0
+TryPhase place line size (FillState.Filling count last) phase =
+    FillPhase (phase ≡ Is place) place size count phase
+TryPhase place line size (FillState.WakingWriters woken number out) phase =
+    phase ≡ Served (after_ending line (ended_as (Ok (FromPipe (HasTried out))))) no_notes
+TryPhase place line size (FillState.Told other) phase = ⊥
 
 -- one that hangs up
 abbrev pub HangPhase : ℕ → Line → HangState → Phase → Type 0
@@ -248,33 +255,41 @@ module _ (what : Want) where
   put_out place line (PutState.Told (reply.Done number)) phase is = absurd is
   put_out place line (PutState.Told (reply.Refused why)) phase is = absurd is
 
+  -- nor does one that reads on
+  fill_out : (begins : Type 0) (place size count : ℕ) (phase : Phase) → (begins → IsOut phase)
+      → FillPhase begins place size count phase → IsOut phase
+  fill_out begins place size count phase out (inl first) = out first.1
+  fill_out begins place size count phase out (inr more) =
+      out_of phase (Has place (ReadsOn (size - count))) more.1 refl
+
   -- nor does one that reads
-  pub read_out : (place : ℕ) (line : Line) (at : FillState (WaitReply ReadAnswer)) (phase : Phase)
-      → ReadPhase place line at phase → IsOut phase
-  read_out place line (FillState.Filling count last) phase is = may_out place phase is.2
-  read_out place line (FillState.WakingWriters woken number (reply.Done (read.Got count))) phase is
-      =
-      out_of phase (Served line.next no_notes) is refl
-  read_out place line (FillState.WakingWriters woken number (reply.Done read.End)) phase is =
-      absurd is
-  read_out place line (FillState.WakingWriters woken number (reply.Wait n)) phase is = absurd is
-  read_out place line (FillState.WakingWriters woken number (reply.Refused why)) phase is =
-      absurd is
-  read_out place line (FillState.Told (Ok (reply.Wait number))) phase is =
+  pub read_out : (place : ℕ) (line : Line) (size : ℕ) (at : FillState (WaitReply ReadAnswer))
+      (phase : Phase) → ReadPhase place line size at phase → IsOut phase
+  read_out place line size (FillState.Filling count last) phase is =
+      fill_out (MayBegin place phase) place size count phase (may_out place phase) is
+  read_out place line size (FillState.WakingWriters woken number (reply.Done out)) phase is =
+      out_of phase (Served (after_ending line (ended_as (Ok (FromPipe (HasRead out))))) no_notes)
+      is refl
+  read_out place line size (FillState.WakingWriters woken number (reply.Wait n)) phase is =
       out_of phase (Has place Blocks) is refl
-  read_out place line (FillState.Told (Ok (reply.Done out))) phase is = absurd is
-  read_out place line (FillState.Told (Ok (reply.Refused why))) phase is = absurd is
-  read_out place line (FillState.Told (Err why)) phase is = absurd is
+  read_out place line size (FillState.WakingWriters woken number (reply.Refused why)) phase is =
+      absurd is
+  read_out place line size (FillState.Told (Ok (reply.Wait number))) phase is =
+      out_of phase (Has place Blocks) is refl
+  read_out place line size (FillState.Told (Ok (reply.Done out))) phase is = absurd is
+  read_out place line size (FillState.Told (Ok (reply.Refused why))) phase is = absurd is
+  read_out place line size (FillState.Told (Err why)) phase is = absurd is
 
   -- one that reads without a wait
-  pub try_out : (place : ℕ) (line : Line) (at : FillState TryAnswer) (phase : Phase)
-      → TryPhase place line at phase → IsOut phase
-  try_out place line (FillState.Filling count last) phase is = out_of phase (Is place) is.2 refl
-  try_out place line (FillState.WakingWriters woken number (try.Got count)) phase is =
-      out_of phase (Served line.next no_notes) is refl
-  try_out place line (FillState.WakingWriters woken number try.NotYet) phase is = absurd is
-  try_out place line (FillState.WakingWriters woken number try.End) phase is = absurd is
-  try_out place line (FillState.Told told) phase is = absurd is
+  pub try_out : (place : ℕ) (line : Line) (size : ℕ) (at : FillState TryAnswer) (phase : Phase)
+      → TryPhase place line size at phase → IsOut phase
+  try_out place line size (FillState.Filling count last) phase is =
+      fill_out (phase ≡ Is place) place size count phase
+      (λ same. out_of phase (Is place) same refl) is
+  try_out place line size (FillState.WakingWriters woken number out) phase is =
+      out_of phase (Served (after_ending line (ended_as (Ok (FromPipe (HasTried out))))) no_notes)
+      is refl
+  try_out place line size (FillState.Told told) phase is = absurd is
 
   -- one that hangs up
   pub hang_out : (place : ℕ) (line : Line) (at : HangState) (phase : Phase)

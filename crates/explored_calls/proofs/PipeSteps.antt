@@ -1,17 +1,15 @@
 -- Each move of the library's calls is followed by the explorer, at a direction of a pipe or not.
 use Rattle.std.proofs.Common.{◌≡◌, ◌≢◌, ◌⊎◌, inl, inr, ℕ, ◌<◌, Bool, true, false}
-use Rattle.std.proofs.Common.{Option, Some, None, List, length, Ok, Err}
+use Rattle.std.proofs.Common.{Some, None, List, length, Ok, Err}
 use Rattle.std.proofs.Common.{nat_lt, refl, sym, ap, subst}
 use Rattle.std.specs.Prelude.{⊤, ◌-◌, slice_get}
 use Rattle.sync_base.specs.declared.limits.TheConstants.{TOP_LEVEL}
 use Rattle.sync_base.specs.declared.note.Note.TheVariants.{ClosedPipe}
 use Rattle.sync_base.specs.NoteSet.{only}
 use Rattle.sleep_core.specs.Table.{has_notes}
-use Rattle.pipe_dev.specs.Rendezes.{writer_rendez}
+use Rattle.pipe_dev.specs.Rendezes.{reader_rendez, writer_rendez}
 use Rattle.pipe_dev.specs.declared.answers.ReadAnswer.{ReadAnswer}
-use Rattle.pipe_dev.specs.declared.answers.ReadAnswer.TheVariants as read
 use Rattle.pipe_dev.specs.declared.answers.TryAnswer.{TryAnswer}
-use Rattle.pipe_dev.specs.declared.answers.TryAnswer.TheVariants as try
 use Rattle.waiting.specs.declared.call.Reply.{Reply as WaitReply}
 use Rattle.waiting.specs.declared.call.Reply.TheVariants as reply
 use Rattle.calls.specs.declared.call.Call.TheVariants as call
@@ -52,9 +50,10 @@ use Rattle.explored_calls.proofs.LibrarySteps.{follows_grain, only_asks, only_re
 use Rattle.explored_calls.proofs.LibrarySteps.{only_wakes}
 use Rattle.explored_calls.proofs.Lists.{at_one}
 use Rattle.explored_calls.proofs.PipeMoves as moves
-use Rattle.explored_calls.proofs.PipeMoves.{IsFollowedTo}
+use Rattle.explored_calls.proofs.PipeMoves.{IsFollowedTo, PipeCall}
 use Rattle.explored_calls.proofs.PipePhases.{HangPhase, IsAwake, IsQuiet, PipesFit, PutPhase}
 use Rattle.explored_calls.proofs.PipePhases.{ReadPhase, TryPhase, pipes_stay, put_in}
+use Rattle.explored_calls.proofs.ReadMoves as reads
 use Rattle.explored_calls.proofs.Running.{Follows, Running}
 
 -- ---- a call elsewhere stays elsewhere
@@ -258,6 +257,30 @@ module _ (program : Program) (is_program : IsProgram program) (covered : IsCover
       abbrev at_pipe : CallState → ProgramState Spot ObjectCall
       at_pipe at = In spot (AtPipe pipe at)
 
+      -- the process, in its call
+      abbrev call_of : (at : CallState) → v.state pid ≡ at_pipe at → pipe_of line.call ≡ pipe
+          → PipeCall program objects
+      call_of at is at_call =
+          record {
+            v = v;
+            pipes = pipes;
+            m = m;
+            follows = follows;
+            fits = fits;
+            piped = piped;
+            pid = pid;
+            low = low;
+            spot = spot;
+            by = by;
+            line = line;
+            line_is = line_is;
+            pipe = pipe;
+            there = there;
+            at_call = at_call;
+            old = at;
+            is = is;
+          }
+
       -- what the process does then
       abbrev does_at : CallState → Next ObjectRequest Unit
       does_at at = (library_of program given objects).machine.does (In spot (AtPipe pipe at))
@@ -274,32 +297,32 @@ module _ (program : Program) (is_program : IsProgram program) (covered : IsCover
           by_grain (at_pipe (Writes writer bytes (TryState.Tries PutState.Putting))) grain _
           (only_asks (library_of program given objects) v.object (v.notes pid) _ grain
           (OfPipe pipe (Put writer bytes)) refl can fine) fresh
-          (λ heard. moves.puts_so program is_program covered given objects v pipes m follows fits
-          piped pid low spot by line line_is pipe there (ap pipe_of made) _ is writer bytes made
+          (λ heard. moves.puts_so program is_program covered given objects
+          (call_of _ is (ap pipe_of made)) writer bytes made
           refl phase heard)
       writes writer bytes made (PutState.Standing number) is phase grain can fine fresh =
           by_grain (at_pipe (Writes writer bytes (TryState.Tries (PutState.Standing number)))) grain
           _
           (only_asks (library_of program given objects) v.object (v.notes pid) _ grain
           (OfPipe pipe (Stand writer number)) refl can fine) fresh
-          (λ heard. moves.stands_so program is_program covered given objects v pipes m follows fits
-          piped pid low spot by line line_is pipe there (ap pipe_of made) _ is writer bytes made
+          (λ heard. moves.stands_so program is_program covered given objects
+          (call_of _ is (ap pipe_of made)) writer bytes made
           number refl phase)
       writes writer bytes made (PutState.WakingReader number) is phase grain can fine fresh =
           by_grain (at_pipe (Writes writer bytes (TryState.Tries (PutState.WakingReader number))))
           grain Went
           (only_wakes (library_of program given objects) v.object (v.notes pid) _ grain _ number
           refl can fine) fresh
-          (λ heard. moves.woke_so program is_program covered given objects v pipes m follows fits
-          piped pid low spot by line line_is pipe there (ap pipe_of made) _ is writer bytes made
+          (λ heard. moves.woke_so program is_program covered given objects
+          (call_of _ is (ap pipe_of made)) writer bytes made
           number refl phase)
       writes writer bytes made PutState.Noting is phase grain can fine fresh =
           by_grain (at_pipe (Writes writer bytes (TryState.Tries PutState.Noting))) grain (Returned
           (only ClosedPipe))
           (only_returns (library_of program given objects) v.object (v.notes pid) _ grain
           (only ClosedPipe) refl can fine) fresh
-          (λ heard. moves.noted_so program is_program covered given objects v pipes m follows fits
-          piped pid low spot by line line_is pipe there (ap pipe_of made) _ is writer bytes made
+          (λ heard. moves.noted_so program is_program covered given objects
+          (call_of _ is (ap pipe_of made)) writer bytes made
           refl phase)
       writes writer bytes made (PutState.Told (reply.Wait number)) is phase grain can fine fresh =
           by_sleep (only_sleeps (library_of program given objects) v.object (v.notes pid) _ grain _
@@ -312,16 +335,16 @@ module _ (program : Program) (is_program : IsProgram program) (covered : IsCover
           by_sleep (inl woken) =
               by_grain (at_pipe (Writes writer bytes (TryState.Tries (PutState.Told (reply.Wait
               number))))) grain Woken woken fresh
-              (λ heard. moves.wakes_so program is_program covered given objects v pipes m follows
-              fits piped pid low spot by line line_is pipe there (ap pipe_of made) (Writes writer
-              bytes (TryState.Tries (PutState.Told (reply.Wait number)))) is writer
+              (λ heard. moves.wakes_so program is_program covered given objects
+              (call_of (Writes writer bytes (TryState.Tries (PutState.Told (reply.Wait number)))) is
+              (ap pipe_of made)) writer
               bytes made number refl phase)
           by_sleep (inr noted) =
               by_grain (at_pipe (Writes writer bytes (TryState.Tries (PutState.Told (reply.Wait
               number))))) grain (Noted (v.notes pid)) noted.0 fresh
-              (λ heard. moves.ends_so program is_program covered given objects v pipes m follows
-              fits piped pid low spot by line line_is pipe there (ap pipe_of made) (Writes writer
-              bytes (TryState.Tries (PutState.Told (reply.Wait number)))) is writer
+              (λ heard. moves.ends_so program is_program covered given objects
+              (call_of (Writes writer bytes (TryState.Tries (PutState.Told (reply.Wait number)))) is
+              (ap pipe_of made)) writer
               bytes made number refl phase noted.1)
       writes writer bytes made (PutState.Told (reply.Done number)) is phase grain can fine fresh =
           absurd phase
@@ -339,70 +362,72 @@ module _ (program : Program) (is_program : IsProgram program) (covered : IsCover
           → (made : line.call ≡ call.Read pipe (length buffer) None)
           → (at : FillState (WaitReply ReadAnswer))
           → v.state pid ≡ at_pipe (Reads buffer (TryState.Tries at))
-          → ReadPhase spot.place line at (m.phase pid)
+          → ReadPhase spot.place line (length buffer) at (m.phase pid)
           → (grain : Grain ObjectRequest ObjectReply)
           → May (at_pipe (Reads buffer (TryState.Tries at))) grain → IsFine grain
           → IsHeardFresh grain → Comes (at_pipe (Reads buffer (TryState.Tries at))) grain
       reads_buffer buffer made (FillState.Filling count last) is phase grain can fine fresh =
-          first count last phase.0 phase.1 is can
+          by_grain (at_pipe (Reads buffer (TryState.Tries (FillState.Filling count last)))) grain
+          (Heard (OfPipe pipe (NextPart count (length buffer - count))) (object_answer objects
+          v.object (OfPipe pipe (NextPart count (length buffer - count)))))
+          (only_asks (library_of program given objects) v.object (v.notes pid)
+          (does_at (Reads buffer (TryState.Tries (FillState.Filling count last)))) grain
+          (OfPipe pipe (NextPart count (length buffer - count))) refl can fine) fresh
+          (λ heard. reads.reads_so program is_program covered given objects
+          (call_of (Reads buffer (TryState.Tries (FillState.Filling count last))) is
+          (ap pipe_of made)) (modes pipe there) buffer made count last refl phase)
+      reads_buffer buffer made (FillState.WakingWriters woken number (reply.Done out)) is phase
+          grain can fine fresh = by_more (more woken) refl
         where
-          first : (count : ℕ) (last : Option ℕ) → count ≡ 0 → last ≡ None
-              → v.state pid ≡ at_pipe (Reads buffer (TryState.Tries (FillState.Filling count last)))
-              → May (at_pipe (Reads buffer (TryState.Tries (FillState.Filling count last)))) grain
-              → Comes (at_pipe (Reads buffer (TryState.Tries (FillState.Filling count last)))) grain
-          first count last none no_last =
-              subst (λ (c : ℕ).
-              v.state pid ≡ at_pipe (Reads buffer (TryState.Tries (FillState.Filling c last)))
-              → May (at_pipe (Reads buffer (TryState.Tries (FillState.Filling c last)))) grain
-              → Comes (at_pipe (Reads buffer (TryState.Tries (FillState.Filling c last)))) grain)
-              (sym none)
-              (subst (λ (l : Option ℕ).
-              v.state pid ≡ at_pipe (Reads buffer (TryState.Tries (FillState.Filling 0 l)))
-              → May (at_pipe (Reads buffer (TryState.Tries (FillState.Filling 0 l)))) grain
-              → Comes (at_pipe (Reads buffer (TryState.Tries (FillState.Filling 0 l)))) grain)
-              (sym no_last)
-              (λ is can. by_grain (at_pipe (Reads buffer (TryState.Tries (FillState.Filling 0
-              None)))) grain
-              (Heard (OfPipe pipe (NextPart 0 (length buffer - 0))) (object_answer objects v.object
-              (OfPipe pipe (NextPart 0 (length buffer - 0)))))
-              (only_asks (library_of program given objects) v.object (v.notes pid)
-              (does_at (Reads buffer (TryState.Tries (FillState.Filling 0 None)))) grain
-              (OfPipe pipe (NextPart 0 (length buffer - 0))) refl can fine) fresh
-              (λ heard. moves.reads_so program is_program covered given objects v pipes m follows
-              fits piped pid low spot by line line_is pipe there (ap pipe_of made) (Reads buffer
-              (TryState.Tries (FillState.Filling 0 None))) is
-              (covered.messages pipe) (modes pipe there) buffer made refl phase.2)))
-      reads_buffer buffer made
-          (FillState.WakingWriters woken number (reply.Done (read.Got count))) is phase grain can
-          fine fresh =
-          by_more (more woken) refl
-        where
-          by_more : (test : Bool) → more woken ≡ test
-              → Comes (at_pipe (Reads buffer (TryState.Tries
-              (FillState.WakingWriters woken number (reply.Done (read.Got count)))))) grain
+          at : CallState
+          at = Reads buffer (TryState.Tries (FillState.WakingWriters woken number (reply.Done out)))
+
+          by_more : (test : Bool) → more woken ≡ test → Comes (at_pipe at) grain
           by_more true one_more =
-              by_grain (at_pipe (Reads buffer (TryState.Tries (FillState.WakingWriters woken number
-              (reply.Done (read.Got count)))))) grain Went
-              (only_wakes (library_of program given objects) v.object (v.notes pid)
-              (does_at (Reads buffer (TryState.Tries (FillState.WakingWriters woken number
-              (reply.Done (read.Got count)))))) grain
-              (writer_rendez (pipe_at objects pipe).row woken) number (rw one_more refl) can fine)
-              fresh
-              (λ heard. moves.read_wakes program is_program covered given objects v pipes m follows
-              fits piped pid low spot by line line_is pipe there (ap pipe_of made) (Reads buffer
-              (TryState.Tries (FillState.WakingWriters woken number (reply.Done (read.Got count)))))
-              is
-              (covered.messages pipe) (modes pipe there) buffer made woken number count refl phase)
+              by_grain (at_pipe at) grain Went
+              (only_wakes (library_of program given objects) v.object (v.notes pid) (does_at at)
+              grain (writer_rendez (pipe_at objects pipe).row woken) number (rw one_more refl) can
+              fine) fresh
+              (λ heard. reads.read_wakes program is_program covered given objects
+              (call_of at is (ap pipe_of made)) (modes pipe there) buffer made woken number out
+              one_more refl phase)
           by_more false none =
               absurd (let over : HasEnded (call_does (pipe_at objects pipe).limit
-              (pipe_at objects pipe).row (Reads buffer (TryState.Tries (FillState.WakingWriters
-              woken number (reply.Done (read.Got count)))))) = rw none tt in
-              is_awake (Reads buffer (TryState.Tries (FillState.WakingWriters woken number
-              (reply.Done (read.Got count))))) is over)
-      reads_buffer buffer made (FillState.WakingWriters woken number (reply.Done read.End)) is phase
-          grain can fine fresh = absurd phase
+              (pipe_at objects pipe).row at) = rw none tt in
+              is_awake at is over)
       reads_buffer buffer made (FillState.WakingWriters woken number (reply.Wait n)) is phase grain
-          can fine fresh = absurd phase
+          can fine fresh = by_more (more woken) refl
+        where
+          at : CallState
+          at = Reads buffer (TryState.Tries (FillState.WakingWriters woken number (reply.Wait n)))
+
+          by_sleep : more woken ≡ false
+              → (grain ≡ Woken) ⊎ (grain ≡ Noted (v.notes pid)) × (has_notes (v.notes pid) ≡ true)
+              → Comes (at_pipe at) grain
+          by_sleep none (inl woken_so) =
+              by_grain (at_pipe at) grain Woken woken_so fresh
+              (λ heard. reads.sleep_again program is_program covered given objects
+              (call_of at is (ap pipe_of made)) (modes pipe there) buffer made woken number n none
+              refl phase)
+          by_sleep none (inr noted) =
+              by_grain (at_pipe at) grain (Noted (v.notes pid)) noted.0 fresh
+              (λ heard. reads.sleep_noted program is_program covered given objects
+              (call_of at is (ap pipe_of made)) (modes pipe there) buffer made woken number n none
+              refl phase noted.1)
+
+          by_more : (test : Bool) → more woken ≡ test → Comes (at_pipe at) grain
+          by_more true one_more =
+              by_grain (at_pipe at) grain Went
+              (only_wakes (library_of program given objects) v.object (v.notes pid) (does_at at)
+              grain (writer_rendez (pipe_at objects pipe).row woken) number (rw one_more refl) can
+              fine) fresh
+              (λ heard. reads.sleep_wakes program is_program covered given objects
+              (call_of at is (ap pipe_of made)) (modes pipe there) buffer made woken number n
+              one_more refl phase)
+          by_more false none =
+              by_sleep none
+              (only_sleeps (library_of program given objects) v.object (v.notes pid) (does_at at)
+              grain (reader_rendez (pipe_at objects pipe).row) n (rw none refl) can fine)
       reads_buffer buffer made (FillState.WakingWriters woken number (reply.Refused why)) is phase
           grain can fine fresh = absurd phase
       reads_buffer buffer made (FillState.Told (Ok (reply.Wait number))) is phase grain can fine
@@ -410,24 +435,21 @@ module _ (program : Program) (is_program : IsProgram program) (covered : IsCover
           by_sleep (only_sleeps (library_of program given objects) v.object (v.notes pid) _ grain _
           number refl can fine)
         where
+          at : CallState
+          at = Reads buffer (TryState.Tries (FillState.Told (Ok (reply.Wait number))))
+
           by_sleep : (grain ≡ Woken) ⊎ (grain ≡ Noted (v.notes pid))
               × (has_notes (v.notes pid) ≡ true)
-              → Comes (at_pipe (Reads buffer
-              (TryState.Tries (FillState.Told (Ok (reply.Wait number)))))) grain
+              → Comes (at_pipe at) grain
           by_sleep (inl woken) =
-              by_grain (at_pipe (Reads buffer (TryState.Tries (FillState.Told (Ok (reply.Wait
-              number)))))) grain Woken woken fresh
-              (λ heard. moves.read_again program is_program covered given objects v pipes m follows
-              fits piped pid low spot by line line_is pipe there (ap pipe_of made) (Reads buffer
-              (TryState.Tries (FillState.Told (Ok (reply.Wait number))))) is
-              (covered.messages pipe) (modes pipe there) buffer made number refl phase)
+              by_grain (at_pipe at) grain Woken woken fresh
+              (λ heard. reads.read_again program is_program covered given objects
+              (call_of at is (ap pipe_of made)) (modes pipe there) buffer made number refl phase)
           by_sleep (inr noted) =
-              by_grain (at_pipe (Reads buffer (TryState.Tries (FillState.Told (Ok (reply.Wait
-              number)))))) grain (Noted (v.notes pid)) noted.0 fresh
-              (λ heard. moves.read_noted program is_program covered given objects v pipes m follows
-              fits piped pid low spot by line line_is pipe there (ap pipe_of made) (Reads buffer
-              (TryState.Tries (FillState.Told (Ok (reply.Wait number))))) is
-              (covered.messages pipe) (modes pipe there) buffer made number refl phase noted.1)
+              by_grain (at_pipe at) grain (Noted (v.notes pid)) noted.0 fresh
+              (λ heard. reads.read_noted program is_program covered given objects
+              (call_of at is (ap pipe_of made)) (modes pipe there) buffer made number refl phase
+              noted.1)
       reads_buffer buffer made (FillState.Told (Ok (reply.Done out))) is phase grain can fine
           fresh = absurd phase
       reads_buffer buffer made (FillState.Told (Ok (reply.Refused why))) is phase grain can fine
@@ -438,65 +460,39 @@ module _ (program : Program) (is_program : IsProgram program) (covered : IsCover
       tries_buffer : (buffer : List ℕ)
           → (made : line.call ≡ call.TryRead pipe (length buffer)) → (at : FillState TryAnswer)
           → v.state pid ≡ at_pipe (TriesToRead buffer at)
-          → TryPhase spot.place line at (m.phase pid)
+          → TryPhase spot.place line (length buffer) at (m.phase pid)
           → (grain : Grain ObjectRequest ObjectReply)
           → May (at_pipe (TriesToRead buffer at)) grain → IsFine grain → IsHeardFresh grain
           → Comes (at_pipe (TriesToRead buffer at)) grain
       tries_buffer buffer made (FillState.Filling count last) is phase grain can fine fresh =
-          first count last phase.0 phase.1 is can
+          by_grain (at_pipe (TriesToRead buffer (FillState.Filling count last))) grain
+          (Heard (OfPipe pipe (NextPart count (length buffer - count))) (object_answer objects
+          v.object (OfPipe pipe (NextPart count (length buffer - count)))))
+          (only_asks (library_of program given objects) v.object (v.notes pid)
+          (does_at (TriesToRead buffer (FillState.Filling count last))) grain
+          (OfPipe pipe (NextPart count (length buffer - count))) refl can fine) fresh
+          (λ heard. reads.tries_so program is_program covered given objects
+          (call_of (TriesToRead buffer (FillState.Filling count last)) is (ap pipe_of made))
+          (modes pipe there) buffer made count last refl phase)
+      tries_buffer buffer made (FillState.WakingWriters woken number out) is phase grain can fine
+          fresh = by_more (more woken) refl
         where
-          first : (count : ℕ) (last : Option ℕ) → count ≡ 0 → last ≡ None
-              → v.state pid ≡ at_pipe (TriesToRead buffer (FillState.Filling count last))
-              → May (at_pipe (TriesToRead buffer (FillState.Filling count last))) grain
-              → Comes (at_pipe (TriesToRead buffer (FillState.Filling count last))) grain
-          first count last none no_last =
-              subst (λ (c : ℕ).
-              v.state pid ≡ at_pipe (TriesToRead buffer (FillState.Filling c last))
-              → May (at_pipe (TriesToRead buffer (FillState.Filling c last))) grain
-              → Comes (at_pipe (TriesToRead buffer (FillState.Filling c last))) grain) (sym none)
-              (subst (λ (l : Option ℕ).
-              v.state pid ≡ at_pipe (TriesToRead buffer (FillState.Filling 0 l))
-              → May (at_pipe (TriesToRead buffer (FillState.Filling 0 l))) grain
-              → Comes (at_pipe (TriesToRead buffer (FillState.Filling 0 l))) grain) (sym no_last)
-              (λ is can. by_grain (at_pipe (TriesToRead buffer (FillState.Filling 0 None))) grain
-              (Heard (OfPipe pipe (NextPart 0 (length buffer - 0))) (object_answer objects v.object
-              (OfPipe pipe (NextPart 0 (length buffer - 0)))))
-              (only_asks (library_of program given objects) v.object (v.notes pid)
-              (does_at (TriesToRead buffer (FillState.Filling 0 None))) grain
-              (OfPipe pipe (NextPart 0 (length buffer - 0))) refl can fine) fresh
-              (λ heard. moves.tries_so program is_program covered given objects v pipes m follows
-              fits piped pid low spot by line line_is pipe there (ap pipe_of made) (TriesToRead
-              buffer (FillState.Filling 0 None)) is
-              (covered.messages pipe) (modes pipe there) buffer made refl phase.2)))
-      tries_buffer buffer made (FillState.WakingWriters woken number (try.Got count)) is phase grain
-          can fine fresh =
-          by_more (more woken) refl
-        where
-          by_more : (test : Bool) → more woken ≡ test
-              → Comes (at_pipe (TriesToRead buffer
-              (FillState.WakingWriters woken number (try.Got count)))) grain
+          at : CallState
+          at = TriesToRead buffer (FillState.WakingWriters woken number out)
+
+          by_more : (test : Bool) → more woken ≡ test → Comes (at_pipe at) grain
           by_more true one_more =
-              by_grain (at_pipe (TriesToRead buffer (FillState.WakingWriters woken number (try.Got
-              count)))) grain Went
-              (only_wakes (library_of program given objects) v.object (v.notes pid)
-              (does_at (TriesToRead buffer (FillState.WakingWriters woken number (try.Got count))))
-              grain
-              (writer_rendez (pipe_at objects pipe).row woken) number (rw one_more refl) can fine)
-              fresh
-              (λ heard. moves.try_wakes program is_program covered given objects v pipes m follows
-              fits piped pid low spot by line line_is pipe there (ap pipe_of made) (TriesToRead
-              buffer (FillState.WakingWriters woken number (try.Got count))) is
-              (covered.messages pipe) (modes pipe there) buffer made woken number count refl phase)
+              by_grain (at_pipe at) grain Went
+              (only_wakes (library_of program given objects) v.object (v.notes pid) (does_at at)
+              grain (writer_rendez (pipe_at objects pipe).row woken) number (rw one_more refl) can
+              fine) fresh
+              (λ heard. reads.try_wakes program is_program covered given objects
+              (call_of at is (ap pipe_of made)) (modes pipe there) buffer made woken number out
+              refl phase)
           by_more false none =
               absurd (let over : HasEnded (call_does (pipe_at objects pipe).limit
-              (pipe_at objects pipe).row (TriesToRead buffer
-              (FillState.WakingWriters woken number (try.Got count)))) = rw none tt in
-              is_awake (TriesToRead buffer (FillState.WakingWriters woken number (try.Got count)))
-              is over)
-      tries_buffer buffer made (FillState.WakingWriters woken number try.NotYet) is phase grain can
-          fine fresh = absurd phase
-      tries_buffer buffer made (FillState.WakingWriters woken number try.End) is phase grain can
-          fine fresh = absurd phase
+              (pipe_at objects pipe).row at) = rw none tt in
+              is_awake at is over)
       tries_buffer buffer made (FillState.Told told) is phase grain can fine fresh = absurd phase
 
       hangs : (seat : ℕ) → (made : line.call ≡ call.Hangup pipe) → (at : HangState)
@@ -508,14 +504,14 @@ module _ (program : Program) (is_program : IsProgram program) (covered : IsCover
           by_grain (at_pipe (Hangs seat HangState.Hanging)) grain _
           (only_asks (library_of program given objects) v.object (v.notes pid) _ grain
           (OfPipe pipe (Hang seat)) refl can fine) fresh
-          (λ heard. moves.hangs_so program is_program covered given objects v pipes m follows fits
-          piped pid low spot by line line_is pipe there (ap pipe_of made) _ is seat made refl phase)
+          (λ heard. moves.hangs_so program is_program covered given objects
+          (call_of _ is (ap pipe_of made)) seat made refl phase)
       hangs seat made HangState.WakingReader is phase grain can fine fresh =
           by_grain (at_pipe (Hangs seat HangState.WakingReader)) grain Went
           (only_wakes (library_of program given objects) v.object (v.notes pid) _ grain _ TOP_LEVEL
           refl can fine) fresh
-          (λ heard. moves.hang_reader program is_program covered given objects v pipes m follows
-          fits piped pid low spot by line line_is pipe there (ap pipe_of made) _ is seat made refl
+          (λ heard. moves.hang_reader program is_program covered given objects
+          (call_of _ is (ap pipe_of made)) seat made refl
           phase)
       hangs seat made (HangState.WakingWriters woken) is phase grain can fine fresh =
           by_more (more woken) refl
@@ -528,9 +524,8 @@ module _ (program : Program) (is_program : IsProgram program) (covered : IsCover
               (does_at (Hangs seat (HangState.WakingWriters woken))) grain
               (writer_rendez (pipe_at objects pipe).row woken) TOP_LEVEL (rw one_more refl) can
               fine) fresh
-              (λ heard. moves.hang_wakes program is_program covered given objects v pipes m follows
-              fits piped pid low spot by line line_is pipe there (ap pipe_of made) (Hangs seat
-              (HangState.WakingWriters woken)) is seat made
+              (λ heard. moves.hang_wakes program is_program covered given objects
+              (call_of (Hangs seat (HangState.WakingWriters woken)) is (ap pipe_of made)) seat made
               woken refl phase)
           by_more false none =
               absurd (let over : HasEnded (call_does (pipe_at objects pipe).limit

@@ -137,7 +137,7 @@ moved_stands what before other process = by_standing process.standing refl
   where
     by_standing : (stands : Standing) → process.standing ≡ stands
         → stands_for other (moved_up what before process).standing
-            ≡ stands_for other process.standing
+        ≡ stands_for other process.standing
     by_standing (standing.Waits third n) is = rw is (by_test (is_same_want what third))
       where
         by_test : (test : Bool)

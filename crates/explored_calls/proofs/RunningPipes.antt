@@ -1,25 +1,29 @@
 -- The moves of a call at a direction of a pipe are steps of the explorer.
-use Rattle.std.proofs.Common.{◌≡◌, inl, inr, ℕ, ◌<◌, Bool, if◌then◌else◌, true}
+use Rattle.std.proofs.Common.{◌≡◌, ◌⊎◌, inl, inr, ℕ, ◌-◌, ◌<◌, Bool, ◌&&◌, if◌then◌else◌, true}
 use Rattle.std.proofs.Common.{false, Some, None, List, length, nat_lt, refl, sym, ap, ◌∙◌, subst}
 use Rattle.std.specs.Prelude.{slice_get, slice_set}
 use Rattle.sync_base.specs.declared.note.Note.TheVariants.{ClosedPipe}
 use Rattle.sync_base.specs.declared.note.NoteSet.{NoteSet}
 use Rattle.sync_base.specs.NoteSet.{joined, no_notes, only}
+use Rattle.calls.specs.declared.call.Call.{Call}
 use Rattle.calls.specs.declared.call.Call.TheVariants as call
 use Rattle.calls.specs.declared.direction.Found.TheVariants as found
+use Rattle.calls.specs.declared.ending.Ending.{Ending}
 use Rattle.calls.specs.declared.line.Line.{Line}
 use Rattle.calls.specs.Calls.{pipe_of}
-use Rattle.calls.specs.Lines.{has_notes}
-use Rattle.calls.specs.Pipes.{Direction, accepted, finds, hung, stood}
+use Rattle.calls.specs.Lines.{after_ending, has_notes}
+use Rattle.calls.specs.Pipes.{Direction, accepted, finds, hung, is_answer, opened, stood}
 use Rattle.calls.specs.Pipes.{taken as read_from}
+use Rattle.calls.specs.Position.{end_found}
 use Rattle.calls.specs.Program.{Program, is_stream_at, limit_at, procs_of}
 use Rattle.explored_calls.proofs.ExplorerPipes as steps
-use Rattle.explored_calls.proofs.ExplorerPipes.{IsMaking, halted}
+use Rattle.explored_calls.proofs.ExplorerPipes.{Fills, IsMaking, halted}
+use Rattle.explored_calls.proofs.ExplorerPipes.Fills.{Again, First, Goes}
 use Rattle.explored_calls.proofs.ExplorerSteps.{Reaches}
 use Rattle.explored_calls.proofs.Lists.{at_one}
 use Rattle.explored_calls.proofs.PipePhases.{MayBegin}
 use Rattle.explored_calls.proofs.Queued.{Halt, Queued}
-use Rattle.explored_calls.proofs.Queued.Amid.{Blocks, Wrote}
+use Rattle.explored_calls.proofs.Queued.Amid.{Blocks, ReadsOn, Wrote}
 use Rattle.explored_calls.proofs.Queued.Halt.{Free, Stays}
 use Rattle.explored_calls.proofs.Running.{AreSame, Follows, IsNoted, MayTurn, Phase, Running}
 use Rattle.explored_calls.proofs.Running.{notes_by, place_by, reaches_same, seen}
@@ -31,6 +35,16 @@ use Rattle.explored_calls.proofs.RunningSteps.{GoesTo, by_one}
 abbrev pub turned_to : Running → ℕ → Phase → NoteSet → Running
 turned_to m pid phase set =
     record m { phase = at_one pid phase m.phase; notes = at_one pid set m.notes }
+
+-- a read of so many bytes at this place, with room for so many, goes so
+pub data Reading (pipe place size room : ℕ) (made : Call) (phase : Phase) : Type 0 where
+  -- it makes its call
+  Begins : phase ≡ Is place → room ≡ size → Reading pipe place size room made phase
+  -- it waits, and makes it again
+  Retries : phase ≡ Has place Blocks → room ≡ size → made ≡ call.Read pipe size None
+      → Reading pipe place size room made phase
+  -- it has taken a part, and goes on
+  Continues : phase ≡ Has place (ReadsOn room) → Reading pipe place size room made phase
 
 module _ (program : Program) (pipes : List Direction) (m : Running)
     (follows : Follows program pipes m) (pid : ℕ) (low : pid < procs_of program) where
@@ -127,6 +141,15 @@ module _ (program : Program) (pipes : List Direction) (m : Running)
 
   has_put : (place : ℕ) → m.phase pid ≡ Has place Wrote → IsAs place (Stays Wrote)
   has_put place is =
+      record {
+        place_is = λ turned. ap (λ (p : Phase). place_by program p (turned pid)) is;
+        waits_is = λ turned. ap (λ (p : Phase). waits_by p (turned pid)) is;
+        notes_is = λ turned. ap (λ (p : Phase). notes_by p (turned pid) (m.notes pid)) is;
+      }
+
+  is_reading : (place room : ℕ) → m.phase pid ≡ Has place (ReadsOn room)
+      → IsAs place (Stays (ReadsOn room))
+  is_reading place room is =
       record {
         place_is = λ turned. ap (λ (p : Phase). place_by program p (turned pid)) is;
         waits_is = λ turned. ap (λ (p : Phase). waits_by p (turned pid)) is;
@@ -257,108 +280,163 @@ module _ (program : Program) (pipes : List Direction) (m : Running)
 
       -- ---- a read
 
-      module _ (room : ℕ) where
-        -- a read that waits takes the bytes of a message
-        pub read_takes : line.call ≡ call.Read pipe room None → MayBegin place (m.phase pid)
-            → is_stream_at program pipe ≡ false → finds x ≡ found.Bytes
-            → (phase : Phase) → GoesTo program phase line.next
-            → Follows program (slice_set pipes pipe (read_from room x))
-            (turned_to m pid phase (m.notes pid))
-        read_takes made may message is phase done =
-            leads_to phase line.next (m.notes pid) _ done
-            (λ turned reaches. with_notes turned line.next Free _ (m.notes pid)
-            (begin_notes may turned)
-            (steps.making_on program (seen program pipes m turned) reaches pid line _
-            (making may turned)
-            (steps.read_early program (seen program pipes m turned) reaches pid line pipe x there
-            at_call room (inl made))
-            (steps.read_answered program (seen program pipes m turned) reaches pid line pipe x there
-            at_call room (inl made) found.Bytes is refl made)
-            (steps.bytes_shown program (seen program pipes m turned) reaches pid line pipe x there
-            at_call room (inl made) message low
-            (steps.makes_outside _ (making may turned).waits) is)))
+      module _ (size room : ℕ)
+          (made : line.call ≡ call.Read pipe size None ⊎ line.call ≡ call.TryRead pipe size)
+          (reading : Reading pipe place size room line.call (m.phase pid)) where
+        -- the process before it, as the explorer has it
+        record IsReader (turned : ℕ → Bool) : Type 0 where
+          fills : Fills pipe size room line.call ((seen program pipes m turned).waits pid)
+          has_line : slice_get program.lines ((seen program pipes m turned).place pid) ≡ Some line
+          place_is : (seen program pipes m turned).place pid ≡ place
+          notes_is : (seen program pipes m turned).notes pid ≡ m.notes pid
 
-        -- or finds the end
-        pub read_ends : line.call ≡ call.Read pipe room None → MayBegin place (m.phase pid)
-            → finds x ≡ found.End → (phase : Phase) → GoesTo program phase line.closed
-            → Follows program pipes (turned_to m pid phase (m.notes pid))
-        read_ends made may is phase done =
-            leads_to phase line.closed (m.notes pid) _ done
-            (λ turned reaches. with_notes turned line.closed Free _ (m.notes pid)
-            (begin_notes may turned)
-            (steps.making_on program (seen program pipes m turned) reaches pid line _
-            (making may turned)
-            (steps.read_early program (seen program pipes m turned) reaches pid line pipe x there
-            at_call room (inl made))
-            (steps.read_answered program (seen program pipes m turned) reaches pid line pipe x there
-            at_call room (inl made) found.End is refl made)
-            (steps.end_shown program (seen program pipes m turned) reaches pid line pipe x there
-            at_call room (inl made) low
-            (steps.makes_outside _ (making may turned).waits) is)))
+        reader : (turned : ℕ → Bool) → IsReader turned
+        reader turned = by reading
+          where
+            reader_as : (halt : Halt) → IsAs place halt
+                → Fills pipe size room line.call ((seen program pipes m turned).waits pid)
+                → IsReader turned
+            reader_as halt shown fills =
+                record {
+                  fills = fills;
+                  has_line = its_line halt shown turned;
+                  place_is = shown.place_is turned;
+                  notes_is = shown.notes_is turned;
+                }
 
-        -- or finds nothing, and waits
-        pub read_blocked : line.call ≡ call.Read pipe room None → m.phase pid ≡ Is place
-            → finds x ≡ found.Nothing
-            → Follows program pipes (turned_to m pid (Has place Blocks) (m.notes pid))
-        read_blocked made is none =
-            follows_so (Has place Blocks) (m.notes pid) _ (λ noted. noted)
-            (λ turned reaches. stays_so (Stays Blocks) _ (inl is) turned
-            (steps.making_first program (seen program pipes m turned) reaches pid line _ low
-            (its_line Free (is_free place is) turned) ((is_free place is).waits_is turned)
-            (steps.read_early program (seen program pipes m turned) reaches pid line pipe x there
-            at_call room (inl made))
-            (steps.nothing_shown program (seen program pipes m turned) reaches pid line pipe x there
-            at_call room (inl made) low
-            (steps.makes_outside _ (making (inl is) turned).waits) none made)))
+            by : Reading pipe place size room line.call (m.phase pid) → IsReader turned
+            by (Begins is same) =
+                reader_as Free (is_free place is) (First ((is_free place is).waits_is turned) same)
+            by (Retries is same so) =
+                reader_as (Stays Blocks) (is_blocked place is)
+                (Again ((is_blocked place is).waits_is turned) same so)
+            by (Continues is) =
+                reader_as (Stays (ReadsOn room)) (is_reading place room is)
+                (Goes ((is_reading place room is).waits_is turned))
 
-        -- one that does not wait, by where it leads
-        try_step : line.call ≡ call.TryRead pipe room → m.phase pid ≡ Is place
-            → (to : ℕ) (next : List Direction) (phase : Phase) → GoesTo program phase to
+        -- where it waits it finds something
+        abbrev FindsIfBlocked : Type 0
+        FindsIfBlocked = m.phase pid ≡ Has place Blocks → is_answer (finds x) ≡ true
+
+        answered : FindsIfBlocked → (turned : ℕ → Bool)
+            → (seen program pipes m turned).waits pid ≡ Stays Blocks → is_answer (finds x) ≡ true
+        answered answer turned waits = by reading
+          where
+            by : Reading pipe place size room line.call (m.phase pid) → is_answer (finds x) ≡ true
+            by (Begins is same) =
+                absurd (let apart : Free ≡ Stays Blocks =
+                sym ((is_free place is).waits_is turned) ∙ waits in cc)
+            by (Retries is same so) = answer is
+            by (Continues is) =
+                absurd (let apart : Stays (ReadsOn room) ≡ Stays Blocks =
+                sym ((is_reading place room is).waits_is turned) ∙ waits in cc)
+
+        -- what a step of it shows
+        abbrev Shown : Queued → (turned : ℕ → Bool)
+            → Reaches program (seen program pipes m turned) → Type 0
+        Shown next turned reaches =
+            steps.ReadShowing program (seen program pipes m turned) reaches pid line pipe x there
+            at_call size made room next
+
+        outside : (turned : ℕ → Bool) → steps.IsOutside ((seen program pipes m turned).waits pid)
+        outside turned =
+            steps.fills_outside pipe size room line.call _ (reader turned).fills
+
+        -- a step of it
+        steps_to : (turned : ℕ → Bool) (reaches : Reaches program (seen program pipes m turned))
+            (next : Queued) → FindsIfBlocked → Shown next turned reaches → Reaches program next
+        steps_to turned reaches next answer shows =
+            steps.reads_on program (seen program pipes m turned) reaches pid line pipe x there
+            at_call size made room next low (reader turned).has_line shows (reader turned).fills
+            (answered answer turned)
+
+        -- it stays at its place
+        stays_there : (halt : Halt) (next : List Direction) (turned : ℕ → Bool)
+            → Reaches program (halted (seen program pipes m turned) pid
+            ((seen program pipes m turned).place pid) halt ((seen program pipes m turned).notes pid)
+            next)
+            → Reaches program (halted (seen program pipes m turned) pid place halt (m.notes pid)
+            next)
+        stays_there halt next turned reaches =
+            subst (λ (n : ℕ).
+            Reaches program (halted (seen program pipes m turned) pid n halt (m.notes pid) next))
+            (reader turned).place_is
+            (with_notes turned _ halt next (m.notes pid) (reader turned).notes_is reaches)
+
+        -- it is over, and leads here
+        read_leads : (to : ℕ) (next : List Direction) → FindsIfBlocked
             → ((turned : ℕ → Bool) (reaches : Reaches program (seen program pipes m turned))
-            → steps.IsOutside ((seen program pipes m turned).waits pid)
-            → steps.Showing program (seen program pipes m turned) reaches pid line
-            (halted (seen program pipes m turned) pid to Free
-            ((seen program pipes m turned).notes pid) next))
+            → Shown (halted (seen program pipes m turned) pid to Free
+            ((seen program pipes m turned).notes pid) next) turned reaches)
+            → (phase : Phase) → GoesTo program phase to
             → Follows program next (turned_to m pid phase (m.notes pid))
-        try_step made is to next phase done shows =
+        read_leads to next answer shows phase done =
             leads_to phase to (m.notes pid) _ done
-            (λ turned reaches. with_notes turned to Free _ (m.notes pid)
-            ((is_free place is).notes_is turned)
-            (steps.making_first program (seen program pipes m turned) reaches pid line _ low
-            (its_line Free (is_free place is) turned) ((is_free place is).waits_is turned)
-            (steps.read_early program (seen program pipes m turned) reaches pid line pipe x there
-            at_call room (inr made))
-            (shows turned reaches
-            (steps.makes_outside _ (making (inl is) turned).waits))))
+            (λ turned reaches. with_notes turned to Free _ (m.notes pid) (reader turned).notes_is
+            (steps_to turned reaches _ answer (shows turned reaches)))
 
-        -- it takes the bytes of a message
-        pub try_takes : line.call ≡ call.TryRead pipe room → m.phase pid ≡ Is place
-            → is_stream_at program pipe ≡ false → finds x ≡ found.Bytes
+        -- it takes a part, and goes on
+        pub reads_part : (more : ℕ) → room - (opened x).rest ≡ more → finds x ≡ found.Bytes
+            → (is_stream_at program pipe && nat_lt 0 more) ≡ true
+            → Follows program (slice_set pipes pipe (read_from room x))
+            (turned_to m pid (Has place (ReadsOn more)) (m.notes pid))
+        reads_part more same is on =
+            follows_so (Has place (ReadsOn more)) (m.notes pid) _ (λ noted. noted)
+            (λ turned reaches. stays_there (Stays (ReadsOn more)) _ turned
+            (steps_to turned reaches _ (λ blocks. ap is_answer is)
+            (steps.part_shown program (seen program pipes m turned) reaches pid line pipe x there
+            at_call size made room low (outside turned) more same is on)))
+
+        -- or its last part
+        pub reads_last : (more : ℕ) → room - (opened x).rest ≡ more → finds x ≡ found.Bytes
+            → (is_stream_at program pipe && nat_lt 0 more) ≡ false
             → (phase : Phase) → GoesTo program phase line.next
             → Follows program (slice_set pipes pipe (read_from room x))
             (turned_to m pid phase (m.notes pid))
-        try_takes made is message bytes phase done =
-            try_step made is line.next _ phase done
-            (λ turned reaches outside. steps.bytes_shown program (seen program pipes m turned)
-            reaches pid line pipe x there at_call room (inr made) message low outside bytes)
+        reads_last more same is over =
+            read_leads line.next _ (λ blocks. ap is_answer is)
+            (λ turned reaches. steps.last_shown program (seen program pipes m turned) reaches pid
+            line pipe x there at_call size made room low (outside turned) more same is over)
 
         -- or finds the end
-        pub try_ends : line.call ≡ call.TryRead pipe room → m.phase pid ≡ Is place
-            → finds x ≡ found.End → (phase : Phase) → GoesTo program phase line.closed
+        pub reads_end : (ends : Ending) → end_found line room ≡ ends → finds x ≡ found.End
+            → (phase : Phase) → GoesTo program phase (after_ending line ends)
             → Follows program pipes (turned_to m pid phase (m.notes pid))
-        try_ends made is end phase done =
-            try_step made is line.closed _ phase done
-            (λ turned reaches outside. steps.end_shown program (seen program pipes m turned)
-            reaches pid line pipe x there at_call room (inr made) low outside end)
+        reads_end ends how is =
+            read_leads (after_ending line ends) _ (λ blocks. ap is_answer is)
+            (λ turned reaches. steps.end_shown program (seen program pipes m turned) reaches pid
+            line pipe x there at_call size made room low (outside turned) ends how is)
 
-        -- or finds nothing, and goes the other way
-        pub try_fails : line.call ≡ call.TryRead pipe room → m.phase pid ≡ Is place
-            → finds x ≡ found.Nothing → (phase : Phase) → GoesTo program phase line.other
-            → Follows program pipes (turned_to m pid phase (m.notes pid))
-        try_fails made is none phase done =
-            try_step made is line.other _ phase done
-            (λ turned reaches outside. steps.other_shown program (seen program pipes m turned)
-            reaches pid line pipe x there at_call room (inr made) low outside none made)
+        -- ---- it finds nothing, and did not wait
+
+        module _ (fresh : m.phase pid ≡ Has place Blocks → ⊥) (is : finds x ≡ found.Nothing) where
+          -- it has taken bytes, and is over
+          pub reads_some : nat_lt room size ≡ true
+              → (phase : Phase) → GoesTo program phase line.next
+              → Follows program pipes (turned_to m pid phase (m.notes pid))
+          reads_some some =
+              read_leads line.next _ (λ blocks. absurd (fresh blocks))
+              (λ turned reaches. steps.some_shown program (seen program pipes m turned) reaches pid
+              line pipe x there at_call size made room low (outside turned) some is)
+
+          -- or has none, and waits
+          pub reads_nothing : nat_lt room size ≡ false → line.call ≡ call.Read pipe size None
+              → Follows program pipes (turned_to m pid (Has place Blocks) (m.notes pid))
+          reads_nothing none so =
+              follows_so (Has place Blocks) (m.notes pid) _ (λ noted. noted)
+              (λ turned reaches. stays_there (Stays Blocks) _ turned
+              (steps_to turned reaches _ (λ blocks. absurd (fresh blocks))
+              (steps.nothing_shown program (seen program pipes m turned) reaches pid line pipe x
+              there at_call size made room low (outside turned) none is so)))
+
+          -- or goes the other way
+          pub reads_other : nat_lt room size ≡ false → line.call ≡ call.TryRead pipe size
+              → (phase : Phase) → GoesTo program phase line.other
+              → Follows program pipes (turned_to m pid phase (m.notes pid))
+          reads_other none so =
+              read_leads line.other _ (λ blocks. absurd (fresh blocks))
+              (λ turned reaches. steps.other_shown program (seen program pipes m turned) reaches
+              pid line pipe x there at_call size made room low (outside turned) none is so)
 
     -- ---- notes end its wait
 

@@ -507,7 +507,7 @@ module _ (program : Program) (is_program : IsProgram program) (covered : IsCover
           ∙ (ap (λ (by : ℕ). timed_arrived by
           (place_after ending.Done (slice_get program.lines spot.place) spot.place)) here.0
           ∙ ap (λ (found : Option Line). timed_arrived pid
-              (place_after ending.Done found spot.place))
+          (place_after ending.Done found spot.place))
           here.1.line_is)))
 
       -- a position in which the process has come there is followed

@@ -81,7 +81,7 @@ earlier_seat : (now pid : ℕ) (best : _) (t : Timer)
     → read_as {B = SeatDue} (earlier now pid best t)
     (λ due. record { deadline = due.deadline; seat = due.pid })
     ≡ earlier_of (read_as {B = SeatDue} best
-        (λ due. record { deadline = due.deadline; seat = due.pid }))
+    (λ due. record { deadline = due.deadline; seat = due.pid }))
     (if_come now (due_of pid (seat_timer pid t)))
 earlier_seat now pid None timer.Unset below = refl
 earlier_seat now pid (Some due) timer.Unset below = refl
@@ -158,7 +158,7 @@ due_seats : (now pid : ℕ) (best : _) (processes : List Process)
     → read_as {B = SeatDue} (due_from now pid best processes)
     (λ due. record { deadline = due.deadline; seat = due.pid })
     ≡ earlier_of (read_as {B = SeatDue} best
-        (λ due. record { deadline = due.deadline; seat = due.pid }))
+    (λ due. record { deadline = due.deadline; seat = due.pid }))
     (earliest (map (if_come now) (dues_from pid (seat_timers pid processes))))
 due_seats now pid None [] below = refl
 due_seats now pid (Some due) [] below = refl
@@ -168,8 +168,11 @@ due_seats now pid best (process ∷ processes) below =
     ∙ (ap (λ (o : Option SeatDue). earlier_of o
     (earliest (map (if_come now) (dues_from (pid + 1) (seat_timers (pid + 1) processes)))))
     (earlier_seat now pid best process.timer below)
-    ∙ earlier_assoc (read_as {B = SeatDue} best (λ due. record { deadline = due.deadline; seat =
-        due.pid })) _ _)
+    ∙ earlier_assoc (read_as {B = SeatDue} best (λ due. record {
+      deadline = due.deadline;
+      seat =
+          due.pid;
+    })) _ _)
 
 -- the timer that a tick takes first is the same
 pub first_seats : (now : ℕ) (processes : List Process)
