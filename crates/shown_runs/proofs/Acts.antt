@@ -1,8 +1,9 @@
 -- What a process of a system can do next: from a position that is known, its act leads to one that
 -- is known, and all else stays. What is read of a position is one process, the flags of that
 -- process or of another, and the words of one Rendez.
-use Rattle.std.proofs.Common.{◌≡◌, ◌≢◌, ◌<◌, ◌≤◌, ℕ, max, true, false, Option, Some}
-use Rattle.std.proofs.Common.{List, ◌∷◌, length, refl, sym, ap, ◌∙◌, subst, set, Ok, Err}
+use Rattle.std.proofs.Common.{◌≡◌, ◌≢◌, ◌<◌, ◌≤◌, ℕ, max, Bool, true, false, nat_lt, Option, Some}
+use Rattle.std.proofs.Common.{List, ◌∷◌, length, refl, sym, ap, ◌∙◌, subst, set, Ok, Err, arith}
+use Rattle.std.proofs.lemmas.Bool.Decides.{nat_tests}
 use Rattle.std.specs.List.{AllByRecursion}
 use Rattle.std.proofs.lemmas.List.{get_or-set_other, get_or-set_same, length-set}
 use Rattle.sync_base.specs.declared.fault.Fault.TheVariants as fault
@@ -524,6 +525,87 @@ module _ {At Request Reply Out Object : Type 0}
         (worlds.marks (proc a) (proc other) r _ (is_row a other r.0 _ _ holding row) here.flags
         nobody _ level
         (reads a other r.0 _ _ holding low low_other))))
+
+    -- A wakeup where nobody is posted raises the level, and is over.
+    pub wakes_nobody : (here : Here) (at : Position system) (level : ℕ)
+        → Known a a r.0 here at → system.machine.does here.state ≡ Next.Wake r level
+        → here.stage ≡ phase.Idle → here.word ≡ nobody
+        → Leads a a r.0 (record here {
+          state = system.machine.goes_on here.state Outcome.Went;
+          stage = phase.Idle;
+          word = nobody;
+          level = max here.level level;
+        }) at
+    wakes_nobody here at level known does idle free =
+        on a a r.0 _ _ at
+        (makes a a r.0 here at known low _ _ _ _ _ _
+        (ap (λ (p : Phase). event_for a p (system.machine.does here.state)) idle
+        ∙ ap (event_for a phase.Idle) does)
+        (worlds.raises (proc a) (proc a) r at.world (is_row a a r.0 here at known row)
+        here.flags nobody here.level level
+        (subst (λ (p : Phase). Reads a a r.0 at.world p here.flags nobody here.level) idle
+        (subst (λ (w : ℕ). Reads a a r.0 at.world here.stage here.flags w here.level) free
+        (reads a a r.0 here at known low low)))))
+        (λ owing. makes a a r.0 _ _ owing low _ _ _ _ _ _
+        (ap (event_for a (phase.Owing r level)) does)
+        (worlds.takes_nobody (proc a) (proc a) r _ (is_row a a r.0 _ _ owing row) here.flags nobody
+        _ level
+        (reads a a r.0 _ _ owing low low)))
+
+    -- A process with notes that is told to wait is posted, and leaves with them: whether a level is
+    -- above its number or not.
+    pub leaves_noted : (here : Here) (at : Position system) (number : ℕ)
+        → Known a a r.0 here at → system.machine.does here.state ≡ Next.Sleep r number
+        → here.stage ≡ phase.Idle → here.word ≡ nobody → number ≢ TOP_LEVEL
+        → here.flags.wake ≡ false → has_notes here.flags.notes ≡ true
+        → Leads a a r.0 (record here {
+          state = system.machine.goes_on here.state
+              (Outcome.Slept (Err (fault.Interrupted here.flags.notes)));
+          stage = phase.Idle;
+          flags = no_flags;
+          word = nobody;
+        }) at
+    leaves_noted here at number known does idle free top unmarked noted =
+        by_test (nat_lt number here.level) refl
+      where
+        by_test : (test : Bool) → nat_lt number here.level ≡ test
+            → Leads a a r.0 (record here {
+              state = system.machine.goes_on here.state
+                  (Outcome.Slept (Err (fault.Interrupted here.flags.notes)));
+              stage = phase.Idle;
+              flags = no_flags;
+              word = nobody;
+            }) at
+        by_test false is =
+            let under : here.level ≤ number = grind (arith, nat_tests) in
+            on a a r.0 _ _ at (falls_asleep here at number known does idle free top under)
+            (λ asleep. is_noted _ _ number asleep does refl refl unmarked noted)
+        by_test true is =
+            let above : number < here.level = grind (arith, nat_tests) in
+            on a a r.0 _ _ at
+            (makes a a r.0 here at known low _ _ _ _ _ _
+            (ap (λ (p : Phase). event_for a p (system.machine.does here.state)) idle
+            ∙ ap (event_for a phase.Idle) does)
+            (worlds.posts (proc a) (proc a) r at.world (is_row a a r.0 here at known row) here.flags
+            here.word here.level number
+            (subst (λ (p : Phase). Reads a a r.0 at.world p here.flags nobody here.level) idle
+            (subst (λ (w : ℕ). Reads a a r.0 at.world here.stage here.flags w here.level) free
+            (reads a a r.0 here at known low low))) top))
+            (λ posted. on a a r.0 _ _ _
+            (makes a a r.0 _ _ posted low _ _ _ _ _ _
+            (ap (event_for a (phase.Posted r number)) does)
+            (worlds.tests_above (proc a) (proc a) r _ (is_row a a r.0 _ _ posted row) here.flags
+            (posted_as a) here.level number
+            (reads a a r.0 _ _ posted low low) above))
+            (λ leaving. on a a r.0 _ _ _
+            (makes a a r.0 _ _ leaving low _ _ _ _ _ _
+            (ap (event_for a (phase.Leaving r)) does)
+            (worlds.withdraws (proc a) r _ here.flags 0 here.level (is_row a a r.0 _ _ leaving row)
+            (reads a a r.0 _ _ leaving low low)))
+            (λ out. makes a a r.0 _ _ out low _ _ _ _ _ _
+            (ap (event_for a phase.Out) does)
+            (worlds.clears_out (proc a) r _ here.flags nobody here.level
+            (reads a a r.0 _ _ out low low) noted))))
 
   module _ (a : ℕ) (r : RendezId) (low : a < procs system) where
     -- A process takes its notes.

@@ -63,7 +63,8 @@ use Rattle.shown_runs.proofs.Acts.{with_state}
 use Rattle.shown_runs.proofs.Quiet.{such_calls}
 use Rattle.shown_runs.proofs.Quiet.{Placed, SpaceFrame, is_meeting, meeting_apart, placed_still}
 use Rattle.shown_runs.proofs.Quiet.{space_by, space_words}
-use Rattle.shown_runs.proofs.Quiet.{Changed, Frame, IsAsleep, IsIdle, IsLined, Quiet, Rests}
+use Rattle.shown_runs.proofs.Quiet.{Changed, Frame, IsAsleep, IsIdle, IsLined, IsNoWrite, Quiet}
+use Rattle.shown_runs.proofs.Quiet.{Rests}
 use Rattle.shown_runs.proofs.Quiet.{SameSeat, Stands, StandsBy, frame_far, rendez, rests_own}
 use Rattle.shown_runs.proofs.Quiet.{rests_still, sema_at}
 use Rattle.shown_runs.proofs.QuietSteps.{ComesQuiet, SameFor, own_step}
@@ -192,6 +193,7 @@ module _ (program : Program) (given : Spot → Given) (objects : Objects) where
             ∙ get_or-set_other at.object.semas sema other _ _ apart;
         choices = ap (λ (o : ObjectStates). o.choices) is;
         space = ap (λ (o : ObjectStates). o.space) is;
+        pipes = ap (λ (o : ObjectStates). o.pipes) is;
       }
 
   -- what a process has at a semaphore stays, where no word changes
@@ -314,6 +316,8 @@ module _ (program : Program) (given : Spot → Given) (objects : Objects) where
               → now.line (want.Unit other) ≡ q.line (want.Unit other)
           -- and those who wait for partners stay
           pub partners : (tag : ℕ) → now.line (want.Partner tag) ≡ q.line (want.Partner tag)
+          -- so do the directions
+          pub pipes : now.pipes ≡ q.pipes
 
         -- a call that one request makes, which grants nobody a unit and lets nobody wait
         pub goes_by_request : (now : Queued) (sema to : ℕ) (t : SemaState) (hold : Hold)
@@ -352,6 +356,9 @@ module _ (program : Program) (given : Spot → Given) (objects : Objects) where
                     values = leads.values;
                     lines = leads.lines;
                     partners = leads.partners;
+                    no_write = subst IsNoWrite (sym none) tt;
+                    no_write_now = subst IsNoWrite (sym leads.waits) tt;
+                    pipes = leads.pipes;
                   });
             }
           where
@@ -589,6 +596,10 @@ module _ (program : Program) (given : Spot → Given) (objects : Objects) where
                         values = λ other apart. refl;
                         lines = λ other apart. rw (apart_numbers sema other apart) refl;
                         partners = λ tag. refl;
+                        no_write = subst IsNoWrite (sym none) tt;
+                        no_write_now = subst IsNoWrite
+                            (sym (at_self pid (For (want.Unit sema)) q.waits)) tt;
+                        pipes = refl;
                       });
                 }
 
@@ -785,5 +796,8 @@ module _ (program : Program) (given : Spot → Given) (objects : Objects) where
                         values = λ other apart. refl;
                         lines = λ other apart. rw (apart_numbers sema other apart) refl;
                         partners = λ tag. refl;
+                        no_write = subst IsNoWrite (sym waits) tt;
+                        no_write_now = subst IsNoWrite (sym (at_self pid Free q.waits)) tt;
+                        pipes = refl;
                       });
                 }

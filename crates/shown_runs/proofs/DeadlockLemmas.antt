@@ -1,8 +1,9 @@
 -- Where the explorer's machine is stuck, the run has stopped, and is a deadlock.
-use Rattle.std.proofs.Common.{◌≡◌, ◌⊎◌, inl, inr, ℕ, ◌<◌, ◌≤◌, Bool, true, false, Option, Some}
+use Rattle.std.proofs.Common.{◌≡◌, ◌≢◌, ◌⊎◌, inl, inr, ℕ, ◌<◌, ◌≤◌, Bool, true, false, Option, Some}
 use Rattle.std.proofs.Common.{None, List, [], length, refl, sym, ap, ◌∙◌, subst}
 use Rattle.std.specs.Prelude.{slice_get}
 use Rattle.sync_base.specs.declared.ids.RendezId.{RendezId}
+use Rattle.sync_base.specs.declared.limits.TheConstants.{LAST_WRITE}
 use Rattle.sleep_core.specs.declared.answer.Answer.TheVariants as answer
 use Rattle.sleep_core.specs.declared.event.Event.TheVariants.{Look}
 use Rattle.sleep_core.specs.declared.phase.Phase.{Phase}
@@ -23,7 +24,7 @@ use Rattle.calls.specs.declared.line.Line.{Line}
 use Rattle.calls.specs.declared.process.Want.{Want}
 use Rattle.calls.specs.declared.process.Want.TheVariants as want
 use Rattle.calls.specs.Machine.{system_of}
-use Rattle.calls.specs.Position.{Position}
+use Rattle.calls.specs.Position.{Position, is_answered}
 use Rattle.calls.specs.Program.{IsProgram, Program, procs_of}
 use Rattle.schedules.specs.Program.{proc}
 use Rattle.call_machines.specs.Ends.{HasEnded, HasStopped, IsParked}
@@ -38,44 +39,54 @@ use Rattle.call_machines.specs.WaitTables.WaitState.{Waits}
 use Rattle.sema_machines.specs.SemaRuns.CallState.{Takes}
 use Rattle.object_machines.specs.ObjectCalls.{ObjectCall, Objects, object_calls}
 use Rattle.space_machines.specs.MeetMachine.MeetState.{Calls}
-use Rattle.object_machines.specs.ObjectCalls.ObjectCall.{AtSema, InSpace}
-use Rattle.explored_calls.specs.LibraryCalls.{AreItsObjects, Given, Spot, is_at_head, is_served_in}
-use Rattle.explored_calls.specs.LibraryCalls.{library_of, library_program, spot_in}
+use Rattle.object_machines.specs.ObjectCalls.ObjectCall.{AtPipe, AtSema, InSpace}
+use Rattle.explored_calls.specs.LibraryCalls.{AreItsObjects, Given, HaveEnds, Spot, is_at_head}
+use Rattle.explored_calls.specs.LibraryCalls.{is_served_in, library_of, library_program, spot_in}
 use Rattle.explored_calls.proofs.Queued.{Halt, Queued, Shows}
+use Rattle.explored_calls.proofs.Queued.Amid.{Blocks, ReadsOn, Wrote}
 use Rattle.explored_calls.proofs.Queued.Halt.{For, Free, Stays}
-use Rattle.shown_runs.specs.ShownRuns.{AreShownCalls, Deadlocks, NoneIsStuck}
-use Rattle.shown_runs.specs.ShownRuns.{arrived, offered_at, rendez_at, spot_of}
-use Rattle.shown_runs.specs.ShownRuns.{with_choices}
+use Rattle.shown_runs.specs.ShownRuns.{AreFewSteps, AreShownCalls, Deadlocks, NoneIsStuck, arrived}
+use Rattle.shown_runs.specs.ShownRuns.{offered_at, rendez_at, spot_of, with_choices}
 use Rattle.shown_runs.proofs.CallSteps.{in_library, procs_are}
-use Rattle.shown_runs.proofs.Opening.{followed}
-use Rattle.shown_runs.proofs.Quiet.{NoneStays, none_stays, place_at, such_calls}
-use Rattle.shown_runs.proofs.Quiet.{Quiet, StandsBy, sema_at}
-use Rattle.shown_runs.proofs.ShownLemmas.{RunTo, comes, run_to, state_after}
-use Rattle.shown_runs.proofs.StuckLemmas.{HasEndedAt, Starves, WaitsAt, each_stopped}
+use Rattle.shown_runs.proofs.Opening.{ends_there, followed, well_there}
+use Rattle.shown_runs.proofs.Plays.{are_with}
+use Rattle.shown_runs.proofs.Quiet.{Quiet, StandsBy, place_at, sema_at, such_calls}
+use Rattle.shown_runs.proofs.Seen.{seen, seen_by}
+use Rattle.shown_runs.proofs.Settling.{Settled, SettlesTo, none_told, settles_all, told_does}
+use Rattle.shown_runs.proofs.ShownLemmas.{RunTo, comes, run_to, state_after, state_still}
+use Rattle.shown_runs.proofs.StuckLemmas.{HowStopped, Starves, each_stopped, none_wrote}
 use Rattle.shown_runs.proofs.StuckLemmas.{one_starves}
+use Rattle.shown_runs.proofs.StuckLemmas.HowStopped.{IsBlocked, IsInLine, IsOver}
+use Rattle.shown_runs.proofs.WellLines.{HasEnds, IsWell}
 
-module _ (program : Program) (given : Spot → Given) (objects : Objects) (q : Queued) (most : ℕ)
+module _ (program : Program) (given : Spot → Given) (objects : Objects)
+    (are : AreItsObjects program objects) (q : Queued) (most : ℕ)
     (ways : List Bool) (at : runs.Position (library_of program given objects))
-    (quiet : Quiet program given objects q most ways at)
-    (to : RunTo (such_calls program given objects) at) where
+    (quiet : Quiet program given objects (seen none_told q) most ways at)
+    (next : runs.Position (library_of program given objects))
+    (settled : Settled program given objects are q most ways at quiet (procs_of program) next)
+    (to : RunTo (such_calls program given objects) next) where
   -- a process that sleeps in its call
   record IsSleeping (pid : ℕ) : Type 0 where
     rendez_is : RendezId
     number : ℕ
     made : ObjectCall
-    state_is : state_of (library_of program given objects) at pid
+    state_is : state_of (library_of program given objects) next pid
         ≡ In (spot_of pid (q.place pid)) made
     sleeps : (library_of program given objects).machine.does (In (spot_of pid (q.place pid)) made)
         ≡ Next.Sleep rendez_is number
-    phase_is : phase_of at.world pid ≡ phase.Asleep rendez_is number
+    phase_is : phase_of next.world pid ≡ phase.Asleep rendez_is number
 
-  -- each that waits does so
+  -- each that waits in a line does so
   asleep_so : (pid : ℕ) → pid < procs_of program → (what : Want) → q.waits pid ≡ For what
       → IsSleeping pid
   asleep_so pid low what waits =
-      by what (subst (λ (w : Halt). StandsBy program given objects at pid (q.place pid) w)
-      waits (quiet.each pid low).stands)
+      by what (subst (λ (w : Halt). StandsBy program given objects at pid (q.place pid)
+      (seen_by w false)) waits (quiet.each pid low).stands)
     where
+      other : q.waits pid ≢ Stays Blocks
+      other blocks = let both : For what ≡ Stays Blocks = sym waits ∙ blocks in cc
+
       by : (wanted : Want) → StandsBy program given objects at pid (q.place pid) (For wanted)
           → IsSleeping pid
       by (want.Unit sema) asleep =
@@ -84,9 +95,9 @@ module _ (program : Program) (given : Spot → Given) (objects : Objects) (q : Q
             number = grants_of (sema_at program given objects at sema) pid;
             made = AtSema sema (Takes pid
                 (Waits (grants_of (sema_at program given objects at sema) pid)));
-            state_is = asleep.state_is;
+            state_is = settled.states pid (λ less. other) ∙ asleep.state_is;
             sleeps = refl;
-            phase_is = asleep.phase_is;
+            phase_is = settled.phases pid (λ less. other) ∙ asleep.phase_is;
           }
       by (want.Partner tag) meets =
           record {
@@ -97,38 +108,58 @@ module _ (program : Program) (given : Spot → Given) (objects : Objects) (q : Q
               offered = offered_at given pid (q.place pid) tag;
               at = Calls (Waits (place_at program given objects at pid).meetings);
             });
-            state_is = meets.state_is;
+            state_is = settled.states pid (λ less. other) ∙ meets.state_is;
             sleeps = refl;
-            phase_is = meets.phase_is;
+            phase_is = settled.phases pid (λ less. other) ∙ meets.phase_is;
           }
+
+  -- and each that waits at a direction
+  asleep_there : (pid : ℕ) → pid < procs_of program → q.waits pid ≡ Stays Blocks → IsSleeping pid
+  asleep_there pid low waits =
+      let sleeps = settled.sleeps pid low waits in
+      record {
+        rendez_is = sleeps.rendez_is;
+        number = sleeps.number;
+        made = AtPipe sleeps.pipe sleeps.made;
+        state_is = sleeps.state_is;
+        sleeps = told_does program given objects pid (q.place pid) sleeps.made sleeps.told;
+        phase_is = sleeps.phase_is;
+      }
 
   -- where no line is, all calls are over
   ended_after : (pid : ℕ) → pid < procs_of program
       → slice_get program.lines (q.place pid) ≡ None
       → HasEnded ((library_of program given objects).machine.does
       (own_in (library_of program given objects) pid to.run).at)
-  ended_after pid low none = by (q.waits pid) (quiet.each pid low).stands
+  ended_after pid low none = by (q.waits pid) refl (quiet.each pid low).stands
     where
       over : arrived program given objects pid (q.place pid) ≡ Ended
       over =
           ap (λ (found : Option Line). machines.at_place (object_calls objects)
           (library_program program given) (spot_in pid (q.place pid) found)) none
 
-      by : (waits : Halt) → StandsBy program given objects at pid (q.place pid) waits
+      by : (waits : Halt) → q.waits pid ≡ waits
+          → StandsBy program given objects at pid (q.place pid) (seen_by waits false)
           → HasEnded ((library_of program given objects).machine.does
           (own_in (library_of program given objects) pid to.run).at)
-      by Free idle =
+      by Free is idle =
           subst (λ (s : ProgramState Spot ObjectCall). HasEnded
           ((library_of program given objects).machine.does s))
-          (sym (state_after program given objects q most ways at quiet to pid Ended
+          (sym (state_still program given objects are q most ways at quiet (procs_of program) next
+          settled to pid Ended (λ blocks. let both : Free ≡ Stays Blocks = sym is ∙ blocks in cc)
           (idle.state_is ∙ over))) tt
-      by (For (want.Unit sema)) asleep =
+      by (For (want.Unit sema)) is asleep =
           let some = asleep.line_is in
           absurd (let both : None ≡ Some asleep.line = sym none ∙ some in cc)
-      by (For (want.Partner tag)) meets =
+      by (For (want.Partner tag)) is meets =
           let some = meets.line_is in
           absurd (let both : None ≡ Some meets.line = sym none ∙ some in cc)
-      by (Stays amid) nothing = absurd nothing
+      by (Stays Blocks) is idle =
+          let sleeps = settled.sleeps pid low is in
+          absurd (let both : None ≡ Some sleeps.line = sym none ∙ sleeps.line_is in cc)
+      by (Stays Wrote) is put =
+          absurd (let both : None ≡ Some put.line = sym none ∙ put.line_is in cc)
+      by (Stays (ReadsOn room)) is none = absurd none
 
   -- whoever waits without notes is parked
   parked_after : (pid : ℕ) → pid < procs_of program → has_notes (q.notes pid) ≡ false
@@ -143,7 +174,7 @@ module _ (program : Program) (given : Spot → Given) (objects : Objects) (q : Q
       (event_for pid o.stage ((library_of program given objects).machine.does o.at)))
       (sym (to.own pid)) (
         Look (proc pid),
-        ap (λ (s : ProgramState Spot ObjectCall). event_for pid (phase_of at.world pid)
+        ap (λ (s : ProgramState Spot ObjectCall). event_for pid (phase_of next.world pid)
             ((library_of program given objects).machine.does s)) asleep.state_is
             ∙ (ap (λ (p : Phase). event_for pid p ((library_of program given objects).machine.does
             (In (spot_of pid (q.place pid)) asleep.made))) asleep.phase_is
@@ -151,44 +182,109 @@ module _ (program : Program) (given : Spot → Given) (objects : Objects) (q : Q
         ap (λ (w : State). answer_to w (Look (proc pid))) to.world ∙ parked.answered,
       )
     where
-      parked : FollowsTable at.world (Look (proc pid))
+      parked : FollowsTable next.world (Look (proc pid))
           (phase.Asleep asleep.rendez_is asleep.number) answer.Parked
           (Flags (record { wake = false; notes = q.notes pid }))
           (phase.Asleep asleep.rendez_is asleep.number)
       parked =
-          look_parked at.world (proc pid) asleep.rendez_is asleep.number
+          look_parked next.world (proc pid) asleep.rendez_is asleep.number
           (record { wake = false; notes = q.notes pid }) refl none
           (record {
-            exists = subst (λ (n : ℕ). pid < n) (sym quiet.sized.phases)
+            exists = subst (λ (n : ℕ). pid < n) (sym settled.sized.phases)
                 (in_library program given objects pid low);
             in_phase = asleep.phase_is;
-            has_word = subst (λ (n : ℕ). pid < n) (sym quiet.sized.flags)
+            has_word = subst (λ (n : ℕ). pid < n) (sym settled.sized.flags)
                 (in_library program given objects pid low);
-            is_word = ap Flags (quiet.each pid low).rests.flags_is;
+            is_word = ap Flags (settled.flags pid ∙ (quiet.each pid low).rests.flags_is);
           })
 
+  -- one that has made its call is in it
+  pub in_call : (pid : ℕ) → pid < procs_of program → q.waits pid ≢ Free
+      → (made : ObjectCall) × ((own_in (library_of program given objects) pid to.run).at
+      ≡ In (spot_of pid (q.place pid)) made)
+  in_call pid low waits = by (q.waits pid) refl (quiet.each pid low).stands
+    where
+      so : IsSleeping pid
+          → (made : ObjectCall) × ((own_in (library_of program given objects) pid to.run).at
+          ≡ In (spot_of pid (q.place pid)) made)
+      so asleep = (
+        asleep.made,
+        state_after program given objects are q most ways at quiet (procs_of program) next settled
+            to pid _ asleep.state_is,
+      )
+
+      by : (halt : Halt) → q.waits pid ≡ halt
+          → StandsBy program given objects at pid (q.place pid) (seen_by halt false)
+          → (made : ObjectCall) × ((own_in (library_of program given objects) pid to.run).at
+          ≡ In (spot_of pid (q.place pid)) made)
+      by Free is idle = absurd (waits is)
+      by (For what) is stands = so (asleep_so pid low what is)
+      by (Stays Blocks) is idle = so (asleep_there pid low is)
+      by (Stays Wrote) is put = (
+        _,
+        state_still program given objects are q most ways at quiet (procs_of program) next settled
+            to pid _ (λ blocks. let both : Stays Wrote ≡ Stays Blocks = sym is ∙ blocks in cc)
+            put.state_is,
+      )
+      by (Stays (ReadsOn room)) is none = absurd none
+
 module _ (program : Program) (given : Spot → Given) (objects : Objects)
+    (are : AreItsObjects program objects)
     (shown : AreShownCalls program) (q : Queued) (most : ℕ) (ways choices : List Bool)
     (at : runs.Position (library_of program given (with_choices objects choices)))
-    (quiet : Quiet program given (with_choices objects choices) q most ways at)
-    (to : RunTo (such_calls program given (with_choices objects choices)) at) (position : Position)
-    (shows : Shows (procs_of program) q position)
-    (stuck : is_stuck (system_of program) position ≡ true) where
-  -- nobody is amid a call of a pipe
-  nobody : NoneStays program q
-  nobody = none_stays program given (with_choices objects choices) q most ways at quiet
+    (quiet : Quiet program given (with_choices objects choices) (seen none_told q) most ways at)
+    (position : Position) (shows : Shows (procs_of program) q position)
+    (stuck : is_stuck (system_of program) position ≡ true) (well : IsWell program q)
+    (ends : HasEnds program given objects q)
+    (few_steps : (most ≤ LAST_GRANT) × (0 < length program.pipes → most < LAST_WRITE)) where
+  -- nobody's write is to stand
+  nobody_wrote : (pid : ℕ) → pid < procs_of program → q.waits pid ≢ Stays Wrote
+  nobody_wrote pid low wrote =
+      let at_line = well.lines pid Wrote low wrote in
+      none_wrote program shown q position shows stuck pid low at_line.line at_line.is wrote
+
+  -- and nobody who waits would be answered
+  nobody_answered : (pid : ℕ) (line : Line) → pid < procs_of program
+      → slice_get program.lines (q.place pid) ≡ Some line → q.waits pid ≡ Stays Blocks
+      → is_answered program position line.call ≡ false
+  nobody_answered pid line low line_is blocks =
+      by (each_stopped program shown q position shows stuck pid low)
+    where
+      by : HowStopped program shown q position shows stuck pid
+          → is_answered program position line.call ≡ false
+      by (IsOver ended) =
+          absurd (let both : None ≡ Some line = sym ended.none ∙ line_is in cc)
+      by (IsInLine waits) =
+          absurd (let both : For waits.what ≡ Stays Blocks = sym waits.waits ∙ blocks in cc)
+      by (IsBlocked here) =
+          let both : Some here.line ≡ Some line = sym here.line_is ∙ line_is in
+          let same : here.line ≡ line = cc in
+          ap (λ (l : Line). is_answered program position l.call) (sym same) ∙ here.unanswered
+
+  -- so all who wait fall asleep
+  settles : SettlesTo program given (with_choices objects choices)
+      (are_with program objects choices are) q most ways at quiet (procs_of program)
+  settles =
+      settles_all program given (with_choices objects choices)
+      (are_with program objects choices are) q most ways at quiet position shows well ends
+      few_steps
+      nobody_wrote nobody_answered
+
+  to : RunTo (such_calls program given (with_choices objects choices)) settles.next
+  to =
+      run_to (such_calls program given (with_choices objects choices)) settles.next
+      settles.settled.reached
 
   -- each process has ended or is parked
   stopped : HasStopped (library_of program given (with_choices objects choices)) to.run
   stopped pid below =
-      by (each_stopped program shown q position shows stuck nobody pid low)
+      by (each_stopped program shown q position shows stuck pid low)
     where
       low : pid < procs_of program
       low =
           subst (λ (n : ℕ). pid < n) (procs_are program given (with_choices objects choices)) below
 
-      by : HasEndedAt program shown q position shows stuck pid
-          ⊎ WaitsAt program shown q position shows stuck pid
+      by : HowStopped program shown q position shows stuck pid
           → HasEnded ((library_of program given (with_choices objects choices)).machine.does
           (own_in (library_of program given (with_choices objects choices)) pid to.run).at)
           ⊎ IsParked (world_at (library_of program given (with_choices objects choices)) to.run)
@@ -196,32 +292,38 @@ module _ (program : Program) (given : Spot → Given) (objects : Objects)
           (own_in (library_of program given (with_choices objects choices)) pid to.run).stage
           ((library_of program given (with_choices objects choices)).machine.does
           (own_in (library_of program given (with_choices objects choices)) pid to.run).at))
-      by (inl ended) =
-          inl (ended_after program given (with_choices objects choices) q most ways at quiet to pid
-          low ended.none)
-      by (inr waits) =
-          let asleep = asleep_so program given (with_choices objects choices) q most ways at quiet
-          to pid low waits.what waits.waits in
-          inr (parked_after program given (with_choices objects choices) q most ways at quiet to pid
-          low waits.none asleep)
+      by (IsOver ended) =
+          inl (ended_after program given (with_choices objects choices)
+          (are_with program objects choices are) q most ways at quiet settles.next settles.settled
+          to pid low ended.none)
+      by (IsInLine waits) =
+          inr (parked_after program given (with_choices objects choices)
+          (are_with program objects choices are) q most ways at quiet settles.next settles.settled
+          to pid low waits.none
+          (asleep_so program given (with_choices objects choices)
+          (are_with program objects choices are) q most ways at quiet settles.next settles.settled
+          to pid low waits.what waits.waits))
+      by (IsBlocked blocks) =
+          inr (parked_after program given (with_choices objects choices)
+          (are_with program objects choices are) q most ways at quiet settles.next settles.settled
+          to pid low blocks.none
+          (asleep_there program given (with_choices objects choices)
+          (are_with program objects choices are) q most ways at quiet settles.next settles.settled
+          to pid low blocks.waits))
 
   -- and one waits where it should not
   starves : Starves program shown q position shows stuck
-  starves = one_starves program shown q position shows stuck nobody
+  starves = one_starves program shown q position shows stuck
 
-  waits_on : (pid : ℕ) → pid < procs_of program → (line : Line)
-      → slice_get program.lines (q.place pid) ≡ Some line → (what : Want) → q.waits pid ≡ For what
-      → line.is_served ≡ false
-      → rests_at (is_at_head program)
-      (own_in (library_of program given (with_choices objects choices)) pid to.run).at
+  waits_on : rests_at (is_at_head program)
+      (own_in (library_of program given (with_choices objects choices)) starves.pid to.run).at
       ≡ false
-  waits_on pid low line line_is what waits not_served =
-      let asleep = asleep_so program given (with_choices objects choices) q most ways at quiet to
-      pid low what waits in
-      ap (rests_at (is_at_head program))
-      (state_after program given (with_choices objects choices) q most ways at quiet to pid _
-      asleep.state_is)
-      ∙ (ap is_served_in line_is ∙ not_served)
+  waits_on =
+      let there = in_call program given (with_choices objects choices)
+      (are_with program objects choices are) q most ways at quiet settles.next settles.settled to
+      starves.pid starves.low starves.waits in
+      ap (rests_at (is_at_head program)) there.1
+      ∙ (ap is_served_in starves.line_is ∙ starves.not_served)
 
   -- So the run is a deadlock, which has stopped with one who should not wait.
   pub deadlocks : Deadlocks program given objects position
@@ -230,35 +332,37 @@ module _ (program : Program) (given : Spot → Given) (objects : Objects)
         played = record {
           choices = choices;
           run = to.run;
-          comes = comes program given (with_choices objects choices) q most ways at quiet to
-              position shows;
+          comes = comes program given (with_choices objects choices)
+              (are_with program objects choices are) q most ways at quiet (procs_of program)
+              settles.next settles.settled to position shows;
         };
         stopped = stopped;
         pid = starves.pid;
         below = in_library program given (with_choices objects choices) starves.pid starves.low;
-        waits = waits_on starves.pid starves.low starves.line starves.line_is starves.what
-            starves.waits starves.not_served;
+        waits = waits_on;
       }
 
 -- So a schedule that is stuck deadlocks.
 pub stuck_deadlocks : (program : Program) (given : Spot → Given) (objects : Objects)
     → AreItsObjects program objects → IsProgram program → AreShownCalls program
-    → (movers : List ℕ) → length movers ≤ LAST_GRANT
+    → HaveEnds program given objects
+    → (movers : List ℕ) → AreFewSteps program movers
     → (position_of (system_of program) movers).course ≡ course.Open
     → ComesToStuck (system_of program) movers
     → Deadlocks program given objects (position_of (system_of program) movers)
-stuck_deadlocks program given objects are is_program shown movers few is_open there =
-    let follows = followed program given objects are is_program shown movers there.schedule few
+stuck_deadlocks program given objects are is_program shown have movers few is_open there =
+    let follows = followed program given objects are is_program shown have movers there.schedule few
     is_open in
-    let plays = follows.plays [] in
-    deadlocks program given objects shown follows.q (length movers) [] plays.choices plays.at
-    plays.quiet
-    (run_to (such_calls program given (with_choices objects plays.choices)) plays.at
-    plays.quiet.reached) (position_of (system_of program) movers) follows.shows there.stuck
+    let plays = follows.plays [] none_told in
+    deadlocks program given objects are shown follows.q (length movers) [] plays.choices plays.at
+    plays.quiet (position_of (system_of program) movers) follows.shows there.stuck
+    (well_there program given objects are is_program shown movers follows)
+    (ends_there program given objects are is_program shown have movers follows)
+    (few.grants, few.writes)
 
 -- And where no run deadlocks, whatever is chosen, none is stuck.
 pub none_is_stuck : NoneIsStuck
-none_is_stuck program given objects movers is_program shown are schedule few is_open ends =
+none_is_stuck program given objects movers is_program shown are have schedule few is_open ends =
     by (is_stuck (system_of program) (position_of (system_of program) movers)) refl
   where
     starved : Deadlocks program given objects (position_of (system_of program) movers) → ⊥
@@ -272,6 +376,6 @@ none_is_stuck program given objects movers is_program shown are schedule few is_
         → is_stuck (system_of program) (position_of (system_of program) movers) ≡ test
         → test ≡ false
     by true is =
-        absurd (starved (stuck_deadlocks program given objects are is_program shown movers few
+        absurd (starved (stuck_deadlocks program given objects are is_program shown have movers few
         is_open (record { schedule = schedule; stuck = is })))
     by false is = refl

@@ -1,5 +1,5 @@
 -- Each step of the explorer's machine is made by acts of the library's calls.
-use Rattle.std.proofs.Common.{◌≡◌, ◌⊎◌, inl, inr, ℕ, ◌+◌, ◌-◌, ◌<◌, ◌≤◌}
+use Rattle.std.proofs.Common.{◌≡◌, ℕ, ◌+◌, ◌-◌, ◌<◌, ◌≤◌}
 use Rattle.std.proofs.Common.{Bool, if◌then◌else◌, true, false, Option, Some, None}
 use Rattle.std.proofs.Common.{nat_lt, refl, sym, ap, ◌∙◌, arith}
 use Rattle.std.specs.Prelude.{slice_get}
@@ -12,13 +12,14 @@ use Rattle.calls.specs.declared.process.Want.{Want}
 use Rattle.calls.specs.Calls.{is_choice}
 use Rattle.calls.specs.Lines.{has_notes}
 use Rattle.calls.specs.Machine.{system_of}
-use Rattle.calls.specs.Position.{Position, by_course, moves, status_of}
+use Rattle.calls.specs.Position.{Position, by_course, is_answered, moves, status_of}
 use Rattle.calls.specs.Position.{status_of_one, turning_of_one}
 use Rattle.calls.specs.Program.{Program, procs_of}
 use Rattle.explored_calls.proofs.ExplorerSteps.{IsAtCall, IsInLine}
 use Rattle.explored_calls.proofs.Queued.{Halt, Queued, Shows, process_of}
+use Rattle.explored_calls.proofs.Queued.Amid.{Blocks, ReadsOn, Wrote}
 use Rattle.explored_calls.proofs.Queued.Halt.{For, Free, Stays}
-use Rattle.shown_runs.proofs.Quiet.{NoneStays}
+use Rattle.shown_runs.proofs.WellLines.{IsWell}
 
 -- ---- which step it was
 
@@ -31,7 +32,31 @@ module _ (program : Program) (q : Queued) (at : Position)
     -- the process has not made the call there
     pub is_at : IsAtCall program q mover line
 
-  -- notes ended a wait,
+  -- one that waits made its call again,
+  pub record Again (mover : ℕ) : Type 0 where
+    -- the line where its place is
+    pub line : Line
+    -- it is a process of the program
+    pub low : mover < procs_of program
+    -- that line is there
+    pub line_is : slice_get program.lines (q.place mover) ≡ Some line
+    -- it waits to make its call again
+    pub waits : q.waits mover ≡ Stays Blocks
+    -- which would be answered
+    pub answered : is_answered program at line.call ≡ true
+
+  -- a write that was accepted stood,
+  pub record Stood (mover : ℕ) : Type 0 where
+    -- the line where its place is
+    pub line : Line
+    -- it is a process of the program
+    pub low : mover < procs_of program
+    -- that line is there
+    pub line_is : slice_get program.lines (q.place mover) ≡ Some line
+    -- its write was accepted
+    pub waits : q.waits mover ≡ Stays Wrote
+
+  -- notes ended a wait in a line,
   pub record Turns (mover : ℕ) : Type 0 where
     -- the process that is meant by the second half of the movers
     pub pid : ℕ
@@ -43,6 +68,23 @@ module _ (program : Program) (q : Queued) (at : Position)
     pub what : Want
     -- it stands there, and has not left
     pub is_in : IsInLine program q pid line what
+    -- notes of it are pending there
+    pub noted : has_notes (q.notes pid) ≡ true
+
+  -- or one of a read or a write,
+  pub record Fails (mover : ℕ) : Type 0 where
+    -- the process that is meant by the second half of the movers
+    pub pid : ℕ
+    -- this mover is its other way
+    pub is : mover ≡ procs_of program + pid
+    -- the line in whose call it waits
+    pub line : Line
+    -- it is a process of the program
+    pub low : pid < procs_of program
+    -- that line is there
+    pub line_is : slice_get program.lines (q.place pid) ≡ Some line
+    -- it waits to make its call again
+    pub waits : q.waits pid ≡ Stays Blocks
     -- notes of it are pending there
     pub noted : has_notes (q.notes pid) ≡ true
 
@@ -63,6 +105,16 @@ module _ (program : Program) (q : Queued) (at : Position)
   abbrev pub Ends : ℕ → Type 0
   Ends mover = nat_lt mover (procs_of program + procs_of program) ≡ false
 
+  -- one of these a step was
+  pub data Which (mover : ℕ) : Type 0 where
+    IsFirst : Begins mover → Which mover
+    IsAgain : Again mover → Which mover
+    IsStood : Stood mover → Which mover
+    IsTurn : Turns mover → Which mover
+    IsFailure : Fails mover → Which mover
+    IsChoice : Chooses mover → Which mover
+    IsEnd : Ends mover → Which mover
+
   resting_so : (served : Bool) → (if served then status.Ended else status.Parked) ≡ status.Ready → ⊥
   resting_so true is = cc
   resting_so false is = cc
@@ -72,34 +124,49 @@ module _ (program : Program) (q : Queued) (at : Position)
   moves_so mover ready =
       ap (λ (c : Course). by_course c (moves program at mover)) (sym shows.is_open) ∙ ready
 
-  goes_by : NoneStays program q → (pid : ℕ) → pid < procs_of program
-      → status_of_one program at (Some (process_of q pid)) ≡ status.Ready → Begins pid
-  goes_by nobody pid low ready = by_line (slice_get program.lines (q.place pid)) refl
+  goes_by : IsWell program q → (pid : ℕ) → pid < procs_of program
+      → status_of_one program at (Some (process_of q pid)) ≡ status.Ready → Which pid
+  goes_by well pid low ready = by_line (slice_get program.lines (q.place pid)) refl
     where
-      by_line : (found : Option Line) → slice_get program.lines (q.place pid) ≡ found → Begins pid
+      by_line : (found : Option Line) → slice_get program.lines (q.place pid) ≡ found → Which pid
       by_line None is =
           absurd (let none : status.Ended ≡ status.Ready =
           sym (rw is refl) ∙ ready in cc)
       by_line (Some line) is = by_wait (q.waits pid) refl
         where
-          by_wait : (waits : Halt) → q.waits pid ≡ waits → Begins pid
+          by_answer : q.waits pid ≡ Stays Blocks → (answered : Bool)
+              → is_answered program at line.call ≡ answered → Which pid
+          by_answer blocks true answered =
+              IsAgain (record {
+                line = line;
+                low = low;
+                line_is = is;
+                waits = blocks;
+                answered = answered;
+              })
+          by_answer blocks false answered =
+              absurd (resting_so line.is_served (sym (rw (is, blocks, answered) refl) ∙ ready))
+
+          by_wait : (waits : Halt) → q.waits pid ≡ waits → Which pid
           by_wait Free none =
-              record {
+              IsFirst (record {
                 line = line;
                 is_at = record { low = low; line_is = is; waits = none };
-              }
+              })
           by_wait (For what) some =
               absurd (resting_so line.is_served (sym (rw (is, some) refl) ∙ ready))
-          by_wait (Stays amid) stays = absurd (nobody pid low amid stays)
+          by_wait (Stays Blocks) blocks = by_answer blocks (is_answered program at line.call) refl
+          by_wait (Stays Wrote) wrote =
+              IsStood (record { line = line; low = low; line_is = is; waits = wrote })
+          by_wait (Stays (ReadsOn room)) reads = absurd (well.no_streams pid room low reads)
 
-  turns_by : NoneStays program q → (mover pid : ℕ) → mover ≡ procs_of program + pid
+  turns_by : (mover pid : ℕ) → mover ≡ procs_of program + pid
       → pid < procs_of program
-      → turning_of_one program (Some (process_of q pid)) ≡ status.Ready
-      → Turns mover ⊎ Chooses mover
-  turns_by nobody mover pid other low ready = by_line (slice_get program.lines (q.place pid)) refl
+      → turning_of_one program (Some (process_of q pid)) ≡ status.Ready → Which mover
+  turns_by mover pid other low ready = by_line (slice_get program.lines (q.place pid)) refl
     where
       by_line : (found : Option Line) → slice_get program.lines (q.place pid) ≡ found
-          → Turns mover ⊎ Chooses mover
+          → Which mover
       by_line None is =
           absurd (let none : status.Ended ≡ status.Ready =
           sym (rw is refl) ∙ ready in cc)
@@ -110,9 +177,9 @@ module _ (program : Program) (q : Queued) (at : Position)
           if_ready true so = refl
           if_ready false so = cc
 
-          by_wait : (waits : Halt) → q.waits pid ≡ waits → Turns mover ⊎ Chooses mover
+          by_wait : (waits : Halt) → q.waits pid ≡ waits → Which mover
           by_wait Free none =
-              inr (record {
+              IsChoice (record {
                 pid = pid;
                 is = other;
                 line = line;
@@ -120,7 +187,7 @@ module _ (program : Program) (q : Queued) (at : Position)
                 choice = if_ready (is_choice line.call) (sym (rw (is, none) refl) ∙ ready);
               })
           by_wait (For what) some =
-              inl (record {
+              IsTurn (record {
                 pid = pid;
                 is = other;
                 line = line;
@@ -128,35 +195,42 @@ module _ (program : Program) (q : Queued) (at : Position)
                 is_in = record { low = low; line_is = is; waits = some };
                 noted = if_ready (has_notes (q.notes pid)) (sym (rw (is, some) refl) ∙ ready);
               })
-          by_wait (Stays amid) stays = absurd (nobody pid low amid stays)
+          by_wait (Stays Blocks) some =
+              IsFailure (record {
+                pid = pid;
+                is = other;
+                line = line;
+                low = low;
+                line_is = is;
+                waits = some;
+                noted = if_ready (has_notes (q.notes pid)) (sym (rw (is, some) refl) ∙ ready);
+              })
+          by_wait (Stays Wrote) some =
+              absurd (let none : status.Ended ≡ status.Ready =
+              sym (rw (is, some) refl) ∙ ready in cc)
+          by_wait (Stays (ReadsOn room)) some =
+              absurd (let none : status.Ended ≡ status.Ready =
+              sym (rw (is, some) refl) ∙ ready in cc)
 
-  -- one of these it was
-  pub which : NoneStays program q → (mover : ℕ) → CanMove (system_of program) at mover
-      → Begins mover ⊎ (Turns mover ⊎ Chooses mover ⊎ Ends mover)
-  which nobody mover can = by_first (nat_lt mover (procs_of program)) refl
+  -- So each step was one of these.
+  pub which : IsWell program q → (mover : ℕ) → CanMove (system_of program) at mover → Which mover
+  which well mover can = by_first (nat_lt mover (procs_of program)) refl
     where
       ready : moves program at mover ≡ status.Ready
       ready = moves_so mover can.ready
 
-      by_first : (first : Bool) → nat_lt mover (procs_of program) ≡ first
-          → Begins mover ⊎ (Turns mover ⊎ Chooses mover ⊎ Ends mover)
+      by_first : (first : Bool) → nat_lt mover (procs_of program) ≡ first → Which mover
       by_first true is =
           let low : mover < procs_of program = grind (arith, nat_tests) in
-          inl (goes_by nobody mover low
+          goes_by well mover low
           (ap (status_of_one program at) (sym (shows.processes.each mover low))
-          ∙ (sym (rw is refl) ∙ ready)))
+          ∙ (sym (rw is refl) ∙ ready))
       by_first false is =
           by_second (nat_lt mover (procs_of program + procs_of program)) refl
         where
-          pick : Turns mover ⊎ Chooses mover
-              → Begins mover ⊎ (Turns mover ⊎ Chooses mover ⊎ Ends mover)
-          pick (inl turns) = inr (inl turns)
-          pick (inr other_way) = inr (inr (inl other_way))
-
           by_second : (second : Bool)
-              → nat_lt mover (procs_of program + procs_of program) ≡ second
-              → Begins mover ⊎ (Turns mover ⊎ Chooses mover ⊎ Ends mover)
-          by_second false last = inr (inr (inr last))
+              → nat_lt mover (procs_of program + procs_of program) ≡ second → Which mover
+          by_second false last = IsEnd last
           by_second true last =
               let less : mover < procs_of program + procs_of program = grind (arith, nat_tests) in
               let above : procs_of program ≤ mover = grind (arith, nat_tests) in
@@ -164,7 +238,7 @@ module _ (program : Program) (q : Queued) (at : Position)
               let below : nat_lt (mover - procs_of program) (procs_of program) ≡ true =
               grind (arith, nat_tests) in
               let is_other : mover ≡ procs_of program + (mover - procs_of program) = omega arith in
-              pick (turns_by nobody mover (mover - procs_of program) is_other low
+              turns_by mover (mover - procs_of program) is_other low
               (ap (turning_of_one program)
               (sym (shows.processes.each (mover - procs_of program) low))
-              ∙ (sym (rw (is, below) refl) ∙ ready)))
+              ∙ (sym (rw (is, below) refl) ∙ ready))

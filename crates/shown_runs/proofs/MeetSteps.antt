@@ -63,7 +63,7 @@ use Rattle.shown_runs.proofs.Acts.{Here, Known, Leads, asks, falls_asleep, goes_
 use Rattle.shown_runs.proofs.Acts.{goes_on_well, is_noted, led_so, on, returns, wakes, with_state}
 use Rattle.shown_runs.proofs.CallSteps.{at_call, at_else, at_self, begins, idle_of}
 use Rattle.shown_runs.proofs.CallSteps.{in_library, known_idle, leads_to, placed_of, rests_of}
-use Rattle.shown_runs.proofs.Quiet.{Frame, IsMeeting, Placed, Quiet, Rests, Stands}
+use Rattle.shown_runs.proofs.Quiet.{Frame, IsMeeting, IsNoWrite, Placed, Quiet, Rests, Stands}
 use Rattle.shown_runs.proofs.Quiet.{StandsBy, frame_meeting, line_of, meeting}
 use Rattle.shown_runs.proofs.Quiet.{meetings_apart, place_at, placed_still, rests_still, sema_at}
 use Rattle.shown_runs.proofs.Quiet.{space_by, such_calls}
@@ -336,6 +336,15 @@ module _ (program : Program) (given : Spot → Given) (objects : Objects)
                         (λ other is. ap (waiter_of at.object.space)
                         (sym (let same : tag ≡ other = grind (arith, nat_tests) in same))
                         ∙ no_waiter);
+                    low = low;
+                    pipes_stay = ap (λ (o : ObjectStates). o.pipes) asleep.known.now.object_is;
+                    pipes = refl;
+                    no_write = subst IsNoWrite (sym none) tt;
+                    no_write_now = subst IsNoWrite
+                        (sym (at_self pid (For (want.Partner tag)) q.waits)) tt;
+                    no_write_seat = subst IsNoWrite (sym none) tt;
+                    no_write_seat_now = subst IsNoWrite
+                        (sym (at_self pid (For (want.Partner tag)) q.waits)) tt;
                   });
             }
           where
@@ -534,6 +543,13 @@ module _ (program : Program) (given : Spot → Given) (objects : Objects)
                     tags = λ other. tags_left other (tag == other) refl;
                     apart = one_waits at.object.space pid member_there OutOfSpace _ quiet.apart
                         (λ other is. absurd cc);
+                    low = low;
+                    pipes_stay = ap (λ (o : ObjectStates). o.pipes) away.known.now.object_is;
+                    pipes = refl;
+                    no_write = subst IsNoWrite (sym waits) tt;
+                    no_write_now = subst IsNoWrite (sym (at_self pid Free q.waits)) tt;
+                    no_write_seat = subst IsNoWrite (sym waits) tt;
+                    no_write_seat_now = subst IsNoWrite (sym (at_self pid Free q.waits)) tt;
                   });
             }
           where
@@ -1033,6 +1049,14 @@ module _ (program : Program) (given : Spot → Given) (objects : Objects)
                 apart = one_waits met_space w met_there OutOfSpace _
                     (one_waits at.object.space w w_there _ _ quiet.apart (λ other is. absurd cc))
                     (λ other is. absurd cc);
+                low = low;
+                pipes_stay = ap (λ (o : ObjectStates). o.pipes) goes.known.now.object_is;
+                pipes = refl;
+                no_write = subst IsNoWrite (sym none) tt;
+                no_write_now = subst IsNoWrite
+                    (sym (at_self pid Free (serves program q (want.Partner tag) 1).waits)) tt;
+                no_write_seat = subst IsNoWrite (sym w_waits) tt;
+                no_write_seat_now = subst IsNoWrite (sym w_none) tt;
               });
         }
       where

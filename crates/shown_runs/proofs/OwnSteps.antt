@@ -112,6 +112,9 @@ module _ (program : Program) (given : Spot → Given) (objects : Objects)
                 values = refl;
                 lines = λ sema. refl;
                 partners = λ tag. refl;
+                low = low;
+                pipes_stay = ap (λ (o : ObjectStates). o.pipes) drained.known.now.object_is;
+                pipes = refl;
               });
         }
 
@@ -196,6 +199,9 @@ module _ (program : Program) (given : Spot → Given) (objects : Objects)
                 values = refl;
                 lines = λ sema. refl;
                 partners = λ tag. refl;
+                low = low;
+                pipes_stay = ap (λ (o : ObjectStates). o.pipes) posted.known.now.object_is;
+                pipes = refl;
               });
         }
 
@@ -266,5 +272,8 @@ module _ (program : Program) (given : Spot → Given) (objects : Objects)
                 values = refl;
                 lines = λ sema. refl;
                 partners = λ tag. refl;
+                low = low;
+                pipes_stay = ap (λ (o : ObjectStates). o.pipes) chosen.known.now.object_is;
+                pipes = refl;
               });
         }

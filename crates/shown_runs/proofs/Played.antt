@@ -1,21 +1,25 @@
 -- Each schedule of the explorer's machine is played by the library's calls, step by step.
 use Rattle.std.proofs.Common.{Option, [], ℕ, ◌+◌, ◌<◌, ◌≡◌, ◌⊎◌, inl, inr, suc}
-use Rattle.std.proofs.Common.{Bool, true, false, Some, None, List}
+use Rattle.std.proofs.Common.{Bool, true, false, not, ◌&&◌, ◌-◌, Some, None, List}
 use Rattle.std.proofs.Common.{◌∷◌, length, nat_lt, refl, sym, ap, ◌∙◌, subst, arith}
+use Rattle.std.specs.Prelude.{slice_set}
 use Rattle.std.proofs.lemmas.Bool.Decides.{nat_tests}
+use Rattle.sync_base.specs.declared.limits.TheConstants.{ATOMIC_SIZE}
 use Rattle.sync_base.specs.declared.note.NoteSet.{NoteSet}
 use Rattle.sync_base.specs.NoteSet.{joined, no_notes}
 use Rattle.searches.specs.Schedule.{CanMove}
-use Rattle.semaphore.specs.declared.limits.TheConstants.{LAST_GRANT}
 use Rattle.tag_space.specs.GroupObject.{waiter_of}
 use Rattle.calls.specs.declared.call.Call.{Call}
 use Rattle.calls.specs.declared.call.Call.TheVariants as call
 use Rattle.calls.specs.declared.course.Course.TheVariants as course
+use Rattle.calls.specs.declared.ending.Ending.{Ending}
+use Rattle.calls.specs.declared.ending.Ending.TheVariants as ending
 use Rattle.calls.specs.declared.limits.TheConstants.{MAX_VALUE}
 use Rattle.calls.specs.declared.line.Line.{Line}
 use Rattle.calls.specs.declared.process.Want.{Want}
 use Rattle.calls.specs.declared.process.Want.TheVariants as want
 use Rattle.calls.specs.Calls.{can_call, is_choice}
+use Rattle.calls.specs.Lines.{after_ending}
 use Rattle.calls.specs.Machine.{system_of}
 use Rattle.calls.specs.Position.{Position, after_of, begun}
 use Rattle.calls.specs.Program.{IsProgram, Program, procs_of, sizes_of}
@@ -27,114 +31,77 @@ use Rattle.explored_calls.proofs.ExplorerSteps.{IsAtCall, acquires_to, begins_af
 use Rattle.explored_calls.proofs.ExplorerSteps.{chooses_after, chooses_to, drains_to, fails_to}
 use Rattle.explored_calls.proofs.ExplorerSteps.{gone_with, posts_to, refuses_to, releases_to}
 use Rattle.explored_calls.proofs.ExplorerSteps.{tries_to, units_of, waits_after, waits_to}
+use Rattle.explored_calls.proofs.ExplorerSteps.{with_units}
+use Rattle.explored_calls.proofs.Lists.{at_one}
 use Rattle.explored_calls.proofs.Queued.{Halt, Queued, Shows, gives_up, gone, has_notes_now, joins}
-use Rattle.explored_calls.proofs.Queued.{serves}
+use Rattle.explored_calls.proofs.Queued.{serves, with_values}
 use Rattle.explored_calls.proofs.QueuedSteps.{shows_gone, shows_left}
-use Rattle.explored_calls.proofs.Queued.Halt.{For}
+use Rattle.explored_calls.proofs.Queued.Amid.{Blocks}
+use Rattle.explored_calls.proofs.Queued.Halt.{For, Free, Stays}
 use Rattle.shown_runs.specs.ShownRuns.{AreShownCalls, IsShownCall, with_choices}
 use Rattle.shown_runs.proofs.CallSteps.{joins_line, line_can, turns_away}
-use Rattle.shown_runs.proofs.Following.{Begins, Chooses, Ends, Turns, which}
+use Rattle.shown_runs.proofs.Following.{Chooses, Turns, Which, which}
+use Rattle.shown_runs.proofs.Following.Which.{IsAgain, IsChoice, IsEnd, IsFailure, IsFirst, IsStood}
+use Rattle.shown_runs.proofs.Following.Which.{IsTurn}
 use Rattle.shown_runs.proofs.OwnSteps.{chooses, posts_notes, takes_notes}
 use Rattle.shown_runs.proofs.MeetSteps.{meets_partner, turns_from_meeting, waits_for_partner}
-use Rattle.shown_runs.proofs.Quiet.{line_of}
-use Rattle.shown_runs.proofs.Quiet.{NoneStays, Quiet, StandsBy}
+use Rattle.shown_runs.proofs.PipePlayed.{IsOfPipe, fails_so, makes_again, pipe_calls, stands_so}
+use Rattle.shown_runs.proofs.PipePlayed.IsOfPipe.{ToHang, ToRead, ToTry, ToWrite}
+use Rattle.shown_runs.proofs.Plays.{PlaysTo, StepsTo, are_with, one_choice, same_choices}
+use Rattle.shown_runs.proofs.Quiet.{Quiet, StandsBy, line_of}
 use Rattle.shown_runs.proofs.QuietSteps.{ComesQuiet}
 use Rattle.shown_runs.proofs.ReleaseSteps.{releases}
+use Rattle.shown_runs.proofs.Seen.{SayTheSame, lines_seen, seen, seen_free, seen_gives_up}
+use Rattle.shown_runs.proofs.Seen.{seen_gone, seen_in, seen_joins, seen_serves}
 use Rattle.shown_runs.proofs.UnitSteps.{acquires, fails, is_refused, tries}
+use Rattle.shown_runs.proofs.WellLines.{AreFollowed, FollowsAt, HasEnds, IsWell, one_follows}
+use Rattle.shown_runs.proofs.WellLines.{serves_follow}
+use Rattle.shown_runs.proofs.WriteSteps.{IsFresh}
 
--- the objects are the program's, whatever is chosen
-pub are_with : (program : Program) (objects : Objects) (ways : List Bool)
-    → AreItsObjects program objects → AreItsObjects program (with_choices objects ways)
-are_with program objects ways are =
-    record {
-      world = record {
-        semas = λ number low.
-            let here = are.world.semas number low in
-            record { fits = here.fits; procs_are = here.procs_are };
-        room = are.world.room;
-        semas_apart = are.world.semas_apart;
-        space_apart = are.world.space_apart;
-        pipes = are.world.pipes;
-        pipes_apart = are.world.pipes_apart;
-        pipe_sema_apart = are.world.pipe_sema_apart;
-        pipe_space_apart = are.world.pipe_space_apart;
-      };
-      procs_are = are.procs_are;
-      semas_are = are.semas_are;
-      values_are = are.values_are;
-      pipes_are = are.pipes_are;
-      limits_are = are.limits_are;
-      modes_are = are.modes_are;
-    }
+-- where both hold the first does
+and_left : (one other : Bool) → (one && other) ≡ true → one ≡ true
+and_left true other is = refl
+and_left false other is = cc
 
 module _ (program : Program) (given : Spot → Given) (objects : Objects)
     (are : AreItsObjects program objects) (is_program : IsProgram program)
     (shown : AreShownCalls program) where
-  -- for some list of choices, which these are the last of, the calls come to this position
-  pub record PlaysTo (q : Queued) (most : ℕ) (ways : List Bool) : Type 0 where
-    -- all that is chosen, from the opening on
-    pub choices : List Bool
-    -- the position of the library's calls
-    pub at : runs.Position (library_of program given (with_choices objects choices))
-    -- it is quiet, as the lines say
-    pub quiet : Quiet program given (with_choices objects choices) q most ways at
-
-  -- A step: whatever is to be chosen after it, the calls come there if they come to where it
-  -- started, with one list of choices to come or another.
-  pub record StepsTo (q : Queued) (after : Position) : Type 0 where
-    -- the lines of processes after the step
-    pub next : Queued
-    -- these are what the explorer's machine shows
-    pub shows : Shows (procs_of program) next after
-    -- the calls follow, from each position that they came to before
-    pub plays : (most : ℕ) (ways : List Bool) → most < LAST_GRANT
-        → ((earlier : List Bool) → PlaysTo q most earlier) → PlaysTo next (suc most) ways
-
-  -- a step that chooses nothing
-  same_choices : (q next : Queued) (most : ℕ) (ways : List Bool)
-      → ((earlier : List Bool) → PlaysTo q most earlier)
-      → ((choices : List Bool) (at : runs.Position
-      (library_of program given (with_choices objects choices)))
-      → Quiet program given (with_choices objects choices) q most ways at
-      → ComesQuiet program given (with_choices objects choices)
-      (are_with program objects choices are) next (suc most) ways)
-      → PlaysTo next (suc most) ways
-  same_choices q next most ways before step =
-      let plays = before ways in
-      let comes = step plays.choices plays.at plays.quiet in
-      record { choices = plays.choices; at = comes.next; quiet = comes.quiet }
-
-  -- a step that makes a choice
-  one_choice : (q next : Queued) (most : ℕ) (way : Bool) (ways : List Bool)
-      → ((earlier : List Bool) → PlaysTo q most earlier)
-      → ((choices : List Bool) (at : runs.Position
-      (library_of program given (with_choices objects choices)))
-      → Quiet program given (with_choices objects choices) q most (way ∷ ways) at
-      → ComesQuiet program given (with_choices objects choices)
-      (are_with program objects choices are) next (suc most) ways)
-      → PlaysTo next (suc most) ways
-  one_choice q next most way ways before step =
-      let plays = before (way ∷ ways) in
-      let comes = step plays.choices plays.at plays.quiet in
-      record { choices = plays.choices; at = comes.next; quiet = comes.quiet }
-
   -- ---- a process begins its call
 
   module _ (q : Queued) (at : Position) (shows : Shows (procs_of program) q at) (pid : ℕ)
       (line : Line) (is_at : IsAtCall program q pid line) where
+    -- what the calls do then
+    abbrev Plays : Queued → Type 0
+    Plays next =
+        (most : ℕ) (ways : List Bool) (told : ℕ → Bool) → IsFresh program most
+        → ((earlier : List Bool) (before : ℕ → Bool)
+        → PlaysTo program given objects are is_program shown q most earlier before)
+        → PlaysTo program given objects are is_program shown next (suc most) ways told
+
+    abbrev Steps : Type 0
+    Steps = StepsTo program given objects are is_program shown q (after_of program at pid)
+
     -- a step that shows this
     begins_so : (next : Queued)
         → Shows (procs_of program) next (begun program at pid line line.call)
-        → ((most : ℕ) (ways : List Bool) → most < LAST_GRANT
-        → ((earlier : List Bool) → PlaysTo q most earlier) → PlaysTo next (suc most) ways)
-        → StepsTo q (after_of program at pid)
-    begins_so next shown_next plays =
+        → AreFollowed program q next → Plays next → Steps
+    begins_so next shown_next follows plays =
         record {
           next = next;
           shows = subst (Shows (procs_of program) next)
               (sym (begins_after program q at shows pid line is_at)) shown_next;
+          follows = follows;
           plays = plays;
         }
+
+    -- it goes on by its line
+    follows_line : (ends : Ending) (other : ℕ)
+        → FollowsAt program (q.place other) (at_one pid (after_ending line ends) q.place other)
+    follows_line ends other = one_follows program q pid line ends is_at.line_is other
+
+    -- as the library has it, it has not made its call
+    free : (told : ℕ → Bool) → (seen told q).waits pid ≡ Free
+    free told = seen_free told q pid is_at.waits
 
     -- what the call names is there
     named : (made : Call) → line.call ≡ made → can_call (sizes_of program) made ≡ true
@@ -146,108 +113,153 @@ module _ (program : Program) (given : Spot → Given) (objects : Objects)
         → sema < length program.values
     sema_there sema is = grind (arith, nat_tests)
 
-    acquires_so : (sema : ℕ) → line.call ≡ call.Acquire sema None
-        → StepsTo q (after_of program at pid)
+    -- a step that is known by what the library has of the lines
+    plays_by : (next : Queued) (library : (ℕ → Bool) → Queued)
+        → ((told : ℕ → Bool) → SayTheSame (library told) (seen told next))
+        → ((most : ℕ) (ways : List Bool) (told : ℕ → Bool) → IsFresh program most
+        → (choices : List Bool)
+        (position : runs.Position (library_of program given (with_choices objects choices)))
+        → Quiet program given (with_choices objects choices) (seen told q) most ways position
+        → ComesQuiet program given (with_choices objects choices)
+        (are_with program objects choices are) (library told) (suc most) ways)
+        → Plays next
+    plays_by next library same step most ways told fresh before =
+        same_choices program given objects are is_program shown q next (library told) most ways told
+        (same told) before (step most ways told fresh)
+
+    acquires_so : (sema : ℕ) → line.call ≡ call.Acquire sema None → Steps
     acquires_so sema made = by (nat_lt 0 (units_of q sema)) refl
       where
-        by : (has : Bool) → nat_lt 0 (units_of q sema) ≡ has
-            → StepsTo q (after_of program at pid)
+        by : (has : Bool) → nat_lt 0 (units_of q sema) ≡ has → Steps
         by true has =
             begins_so (gone_with q sema pid line.next)
             (acquires_to program q at shows pid line is_at sema made has)
-            (λ most ways fresh before. same_choices q _ most ways before (λ choices position quiet.
+            (follows_line ending.Done)
+            (plays_by _ (λ told. gone_with (seen told q) sema pid line.next)
+            (λ told. seen_gone told (with_units q sema (units_of q sema - 1)) pid line.next)
+            (λ most ways told fresh choices position quiet.
             acquires program given (with_choices objects choices)
-            (are_with program objects choices are) q most ways position quiet pid is_at.low line
-            is_at.line_is is_at.waits sema
+            (are_with program objects choices are) (seen told q) most ways position quiet pid
+            is_at.low line is_at.line_is (free told) sema
             (sema_there sema (named (call.Acquire sema None) made)) made has))
         by false empty =
             begins_so (joins q pid (want.Unit sema))
-            (waits_to program q at shows pid line is_at sema made empty)
-            (λ most ways fresh before. same_choices q _ most ways before (λ choices position quiet.
+            (waits_to program q at shows pid line is_at sema made empty) (λ other. inl refl)
+            (plays_by _ (λ told. joins (seen told q) pid (want.Unit sema))
+            (λ told. seen_joins told q pid (want.Unit sema))
+            (λ most ways told fresh choices position quiet.
             let there = sema_there sema (named (call.Acquire sema None) made) in
             joins_line program given (with_choices objects choices)
-            (are_with program objects choices are) q most ways position quiet pid is_at.low sema
-            there line is_at.waits is_at.line_is made
-            (ap (nat_lt 0) (quiet.lined sema there).value ∙ empty) fresh))
+            (are_with program objects choices are) (seen told q) most ways position quiet pid
+            is_at.low sema there line (free told) is_at.line_is made
+            (ap (nat_lt 0) (quiet.lined sema there).value ∙ empty) fresh.0))
 
-    tries_so : (sema : ℕ) → line.call ≡ call.Try sema → StepsTo q (after_of program at pid)
+    tries_so : (sema : ℕ) → line.call ≡ call.Try sema → Steps
     tries_so sema made = by (nat_lt 0 (units_of q sema)) refl
       where
-        by : (has : Bool) → nat_lt 0 (units_of q sema) ≡ has
-            → StepsTo q (after_of program at pid)
+        by : (has : Bool) → nat_lt 0 (units_of q sema) ≡ has → Steps
         by true has =
             begins_so (gone_with q sema pid line.next)
-            (tries_to program q at shows pid line is_at sema made has)
-            (λ most ways fresh before. same_choices q _ most ways before (λ choices position quiet.
+            (tries_to program q at shows pid line is_at sema made has) (follows_line ending.Done)
+            (plays_by _ (λ told. gone_with (seen told q) sema pid line.next)
+            (λ told. seen_gone told (with_units q sema (units_of q sema - 1)) pid line.next)
+            (λ most ways told fresh choices position quiet.
             tries program given (with_choices objects choices)
-            (are_with program objects choices are) q most ways position quiet pid is_at.low line
-            is_at.line_is is_at.waits sema (sema_there sema (named (call.Try sema) made)) made
-            has))
+            (are_with program objects choices are) (seen told q) most ways position quiet pid
+            is_at.low line is_at.line_is (free told) sema
+            (sema_there sema (named (call.Try sema) made)) made has))
         by false empty =
             begins_so (gone q pid line.other)
             (fails_to program q at shows pid line is_at sema made empty)
-            (λ most ways fresh before. same_choices q _ most ways before (λ choices position quiet.
+            (follows_line ending.Interrupted)
+            (plays_by _ (λ told. gone (seen told q) pid line.other)
+            (λ told. seen_gone told q pid line.other)
+            (λ most ways told fresh choices position quiet.
             fails program given (with_choices objects choices)
-            (are_with program objects choices are) q most ways position quiet pid is_at.low line
-            is_at.line_is is_at.waits sema (sema_there sema (named (call.Try sema) made)) made
-            empty))
+            (are_with program objects choices are) (seen told q) most ways position quiet pid
+            is_at.low line is_at.line_is (free told) sema
+            (sema_there sema (named (call.Try sema) made)) made empty))
 
-    releases_so : (sema count : ℕ) → line.call ≡ call.Release sema count
-        → StepsTo q (after_of program at pid)
+    releases_so : (sema count : ℕ) → line.call ≡ call.Release sema count → Steps
     releases_so sema count made = by (nat_lt MAX_VALUE (units_of q sema + count)) refl
       where
-        by : (more : Bool) → nat_lt MAX_VALUE (units_of q sema + count) ≡ more
-            → StepsTo q (after_of program at pid)
+        by : (more : Bool) → nat_lt MAX_VALUE (units_of q sema + count) ≡ more → Steps
         by true more =
             begins_so (gone q pid line.next)
             (refuses_to program q at shows pid line is_at sema count made more)
-            (λ most ways fresh before. same_choices q _ most ways before (λ choices position quiet.
+            (follows_line ending.Done)
+            (plays_by _ (λ told. gone (seen told q) pid line.next)
+            (λ told. seen_gone told q pid line.next)
+            (λ most ways told fresh choices position quiet.
             is_refused program given (with_choices objects choices)
-            (are_with program objects choices are) q most ways position quiet pid is_at.low line
-            is_at.line_is is_at.waits sema
+            (are_with program objects choices are) (seen told q) most ways position quiet pid
+            is_at.low line is_at.line_is (free told) sema
             (sema_there sema (named (call.Release sema count) made)) count made more))
         by false few =
-            begins_so _
+            begins_so (gone (with_values (serves program q (want.Unit sema)
+            (units_of q sema + count)) (left count)) pid line.next)
             (releases_to program q at shows pid line is_at sema count made few)
-            (λ most ways fresh before. same_choices q _ most ways before (λ choices position quiet.
+            (serves_follow program q (want.Unit sema) (units_of q sema + count) pid line
+            (left count) is_at.line_is)
+            (plays_by _
+            (λ told. gone (with_values (serves program (seen told q) (want.Unit sema)
+            (units_of q sema + count)) (left count)) pid line.next)
+            (λ told. seen_serves told program q (want.Unit sema) (units_of q sema + count)
+            (left count) pid line.next)
+            (λ most ways told fresh choices position quiet.
             let there = sema_there sema (named (call.Release sema count) made) in
             releases program given (with_choices objects choices)
-            (are_with program objects choices are) q most ways position quiet shows.lines pid
-            is_at.low sema there line is_at.line_is is_at.waits count made
+            (are_with program objects choices are) (seen told q) most ways position quiet
+            (lines_seen (procs_of program) told q shows.lines) pid is_at.low sema there line
+            is_at.line_is (free told) count made
             (ap (λ (n : ℕ). nat_lt MAX_VALUE (n + count)) (quiet.lined sema there).value ∙ few)))
+          where
+            -- the units that are left
+            left : ℕ → List ℕ
+            left more =
+                slice_set q.values sema
+                (units_of q sema + more - length (q.line (want.Unit sema)))
 
-    posts_so : (other : ℕ) (set : NoteSet) → line.call ≡ call.Note other set
-        → StepsTo q (after_of program at pid)
+    posts_so : (other : ℕ) (set : NoteSet) → line.call ≡ call.Note other set → Steps
     posts_so other set made =
         begins_so (gone (has_notes_now q other (joined (q.notes other) set)) pid line.next)
         (posts_to program q at shows pid line is_at other set made low_other)
-        (λ most ways fresh before. same_choices q _ most ways before (λ choices position quiet.
+        (follows_line ending.Done)
+        (plays_by _
+        (λ told. gone (has_notes_now (seen told q) other (joined (q.notes other) set)) pid
+        line.next)
+        (λ told. seen_gone told (has_notes_now q other (joined (q.notes other) set)) pid line.next)
+        (λ most ways told fresh choices position quiet.
         posts_notes program given (with_choices objects choices)
-        (are_with program objects choices are) q most ways position quiet pid is_at.low line
-        is_at.line_is is_at.waits other set made low_other))
+        (are_with program objects choices are) (seen told q) most ways position quiet pid is_at.low
+        line is_at.line_is (free told) other set made low_other))
       where
         low_other : other < procs_of program
         low_other =
             let is : nat_lt other (procs_of program) ≡ true = named (call.Note other set) made in
             grind (arith, nat_tests)
 
-    drains_so : line.call ≡ call.Drain → StepsTo q (after_of program at pid)
+    drains_so : line.call ≡ call.Drain → Steps
     drains_so made =
         begins_so (gone (has_notes_now q pid no_notes) pid line.next)
-        (drains_to program q at shows pid line is_at made)
-        (λ most ways fresh before. same_choices q _ most ways before (λ choices position quiet.
+        (drains_to program q at shows pid line is_at made) (follows_line ending.Done)
+        (plays_by _ (λ told. gone (has_notes_now (seen told q) pid no_notes) pid line.next)
+        (λ told. seen_gone told (has_notes_now q pid no_notes) pid line.next)
+        (λ most ways told fresh choices position quiet.
         takes_notes program given (with_choices objects choices)
-        (are_with program objects choices are) q most ways position quiet pid is_at.low line
-        is_at.line_is is_at.waits made))
+        (are_with program objects choices are) (seen told q) most ways position quiet pid is_at.low
+        line is_at.line_is (free told) made))
 
-    chooses_so : line.call ≡ call.Choose → StepsTo q (after_of program at pid)
+    chooses_so : line.call ≡ call.Choose → Steps
     chooses_so made =
         begins_so (gone q pid line.next)
-        (chooses_to program q at shows pid line is_at made)
-        (λ most ways fresh before. one_choice q _ most true ways before
+        (chooses_to program q at shows pid line is_at made) (follows_line ending.Done)
+        (λ most ways told fresh before. one_choice program given objects are is_program shown q _
+        (gone (seen told q) pid line.next) most true ways told (seen_gone told q pid line.next)
+        before
         (λ choices position quiet. chooses program given (with_choices objects choices)
-        (are_with program objects choices are) q most (true ∷ ways) position quiet pid is_at.low
-        line is_at.line_is is_at.waits made true ways refl))
+        (are_with program objects choices are) (seen told q) most (true ∷ ways) position quiet pid
+        is_at.low line is_at.line_is (free told) made true ways refl))
 
     no_line : (l : List ℕ) → nat_lt 0 (length l) ≡ false → l ≡ []
     no_line [] is = refl
@@ -255,43 +267,49 @@ module _ (program : Program) (given : Spot → Given) (objects : Objects)
         let low : nat_lt 0 (length (x ∷ l)) ≡ true = grind (arith, nat_tests) in
         absurd cc
 
-    meets_so : (tag : ℕ) → line.call ≡ call.Rendezvous tag None
-        → StepsTo q (after_of program at pid)
+    meets_so : (tag : ℕ) → line.call ≡ call.Rendezvous tag None → Steps
     meets_so tag made = by (nat_lt 0 (length (q.line (want.Partner tag)))) refl
       where
         by_waiter : (some : nat_lt 0 (length (q.line (want.Partner tag))) ≡ true)
-            (choices : List Bool) (most : ℕ) (ways : List Bool)
+            (choices : List Bool) (most : ℕ) (ways : List Bool) (told : ℕ → Bool)
             (position : runs.Position (library_of program given (with_choices objects choices)))
-            → Quiet program given (with_choices objects choices) q most ways position
+            → Quiet program given (with_choices objects choices) (seen told q) most ways position
             → (found : Option ℕ) → waiter_of position.object.space tag ≡ found
             → ComesQuiet program given (with_choices objects choices)
             (are_with program objects choices are)
-            (gone (serves program q (want.Partner tag) 1) pid line.next) (suc most) ways
-        by_waiter some choices most ways position quiet None is =
+            (gone (serves program (seen told q) (want.Partner tag) 1) pid line.next) (suc most) ways
+        by_waiter some choices most ways told position quiet None is =
             let nobody : q.line (want.Partner tag) ≡ [] = quiet.tags tag ∙ ap line_of is in
             let none : nat_lt 0 (length (q.line (want.Partner tag))) ≡ false =
             ap (λ (l : List ℕ). nat_lt 0 (length l)) nobody in
             absurd cc
-        by_waiter some choices most ways position quiet (Some waiter) is =
+        by_waiter some choices most ways told position quiet (Some waiter) is =
             meets_partner program given (with_choices objects choices)
-            (are_with program objects choices are) q most ways position quiet shows.lines pid
-            is_at.low line is_at.waits is_at.line_is tag made waiter is
+            (are_with program objects choices are) (seen told q) most ways position quiet
+            (lines_seen (procs_of program) told q shows.lines) pid
+            is_at.low line (free told) is_at.line_is tag made waiter is
 
-        by : (some : Bool) → nat_lt 0 (length (q.line (want.Partner tag))) ≡ some
-            → StepsTo q (after_of program at pid)
+        by : (some : Bool) → nat_lt 0 (length (q.line (want.Partner tag))) ≡ some → Steps
         by true some =
             begins_so (gone (serves program q (want.Partner tag) 1) pid line.next)
             (meets_to program q at shows pid line is_at tag made some)
-            (λ most ways fresh before. same_choices q _ most ways before (λ choices position quiet.
-            by_waiter some choices most ways position quiet
+            (serves_follow program q (want.Partner tag) 1 pid line q.values is_at.line_is)
+            (plays_by _
+            (λ told. gone (serves program (seen told q) (want.Partner tag) 1) pid line.next)
+            (λ told. seen_serves told program q (want.Partner tag) 1 q.values pid line.next)
+            (λ most ways told fresh choices position quiet.
+            by_waiter some choices most ways told position quiet
             (waiter_of position.object.space tag) refl))
         by false none =
             begins_so (joins q pid (want.Partner tag))
-            (calls_to program q at shows pid line is_at tag made none)
-            (λ most ways fresh before. same_choices q _ most ways before (λ choices position quiet.
+            (calls_to program q at shows pid line is_at tag made none) (λ other. inl refl)
+            (plays_by _ (λ told. joins (seen told q) pid (want.Partner tag))
+            (λ told. seen_joins told q pid (want.Partner tag))
+            (λ most ways told fresh choices position quiet.
             waits_for_partner program given (with_choices objects choices)
-            (are_with program objects choices are) q most ways position quiet pid is_at.low line
-            is_at.waits is_at.line_is tag made (no_line (q.line (want.Partner tag)) none) fresh))
+            (are_with program objects choices are) (seen told q) most ways position quiet pid
+            is_at.low line (free told) is_at.line_is tag made
+            (no_line (q.line (want.Partner tag)) none) fresh.0))
 
     -- it reaches what must not be reached
     pub record Reaches : Type 0 where
@@ -300,12 +318,28 @@ module _ (program : Program) (given : Spot → Given) (objects : Objects)
       -- then the course says that it was reached
       pub reached : (after_of program at pid).course ≡ course.Reached
 
+    -- a call of a pipe
+    piped_so : IsWell program q → IsOfPipe program line.call → Steps
+    piped_so well of =
+        pipe_calls program given objects are is_program shown q at shows pid line is_at.low
+        is_at.line_is (inl is_at.waits) well
+        (begins_after program q at shows pid line is_at)
+        (λ blocks. absurd (let both : Free ≡ Stays Blocks = sym is_at.waits ∙ blocks in cc)) of
+
     -- So each call is made, but one that is never to be made.
-    pub begins : StepsTo q (after_of program at pid) ⊎ Reaches
-    begins = by line.call refl (shown (q.place pid) line is_at.line_is)
+    pub begins : IsWell program q → Steps ⊎ Reaches
+    begins well = by line.call refl (shown (q.place pid) line is_at.line_is)
       where
-        by : (made : Call) → line.call ≡ made → IsShownCall made
-            → StepsTo q (after_of program at pid) ⊎ Reaches
+        pipe_there : (made : Call) (pipe : ℕ) (rest : Bool)
+            → can_call (sizes_of program) made ≡ nat_lt pipe (length program.pipes) && rest
+            → line.call ≡ made → pipe < length program.pipes
+        pipe_there made pipe rest same is =
+            let both : nat_lt pipe (length program.pipes) && rest ≡ true =
+            sym same ∙ named made is in
+            let one : nat_lt pipe (length program.pipes) ≡ true = and_left _ rest both in
+            grind (arith, nat_tests)
+
+        by : (made : Call) → line.call ≡ made → IsShownCall program made → Steps ⊎ Reaches
         by (call.Acquire sema None) is allowed = inl (acquires_so sema is)
         by (call.Acquire sema (Some deadline)) is allowed = absurd allowed
         by (call.Try sema) is allowed = inl (tries_so sema is)
@@ -313,6 +347,22 @@ module _ (program : Program) (given : Spot → Given) (objects : Objects)
         by (call.Note other set) is allowed = inl (posts_so other set is)
         by (call.Rendezvous tag None) is allowed = inl (meets_so tag is)
         by (call.Rendezvous tag (Some deadline)) is allowed = absurd allowed
+        by (call.Read pipe room None) is allowed =
+            inl (piped_so well (ToRead pipe room is
+            (pipe_there (call.Read pipe room None) pipe (nat_lt 0 room) refl is) allowed))
+        by (call.Read pipe room (Some deadline)) is allowed = absurd allowed
+        by (call.TryRead pipe room) is allowed =
+            inl (piped_so well (ToTry pipe room is
+            (pipe_there (call.TryRead pipe room) pipe (nat_lt 0 room) refl is) allowed))
+        by (call.Write pipe bytes None) is allowed =
+            inl (piped_so well (ToWrite pipe bytes is
+            (pipe_there (call.Write pipe bytes None) pipe (not (nat_lt ATOMIC_SIZE bytes)) refl
+            is)))
+        by (call.Write pipe bytes (Some deadline)) is allowed = absurd allowed
+        by (call.Hangup pipe) is allowed =
+            inl (piped_so well (ToHang pipe is
+            (let low : nat_lt pipe (length program.pipes) ≡ true = named (call.Hangup pipe) is in
+            grind (arith, nat_tests))))
         by call.Drain is allowed = inl (drains_so is)
         by call.Choose is allowed = inl (chooses_so is)
         by call.Never is allowed =
@@ -327,7 +377,8 @@ module _ (program : Program) (given : Spot → Given) (objects : Objects)
   -- ---- or it goes the other way
 
   module _ (q : Queued) (at : Position) (shows : Shows (procs_of program) q at) (mover : ℕ) where
-    turns_so : Turns program q at shows mover → StepsTo q (after_of program at mover)
+    turns_so : Turns program q at shows mover
+        → StepsTo program given objects are is_program shown q (after_of program at mover)
     turns_so turns =
         record {
           next = gives_up q turns.pid turns.what turns.line.other;
@@ -337,31 +388,38 @@ module _ (program : Program) (given : Spot → Given) (objects : Objects)
               ∙ waits_after program q at shows turns.pid turns.line turns.what turns.is_in))
               (shows_left (procs_of program) q at shows turns.pid turns.what turns.line
               turns.is_in.low turns.is_in.waits);
-          plays = λ most ways fresh before. same_choices q _ most ways before
-              (λ choices position quiet. by_want choices most ways position quiet turns.what
+          follows = λ other. one_follows program q turns.pid turns.line ending.Interrupted
+              turns.is_in.line_is other;
+          plays = λ most ways told fresh before. same_choices program given objects are is_program
+              shown q _ (gives_up (seen told q) turns.pid turns.what turns.line.other) most ways
+              told (seen_gives_up told q turns.pid turns.what turns.line.other) before
+              (λ choices position quiet. by_want choices most ways told position quiet turns.what
               turns.is_in.waits);
         }
       where
-        by_want : (choices : List Bool) (most : ℕ) (ways : List Bool)
+        by_want : (choices : List Bool) (most : ℕ) (ways : List Bool) (told : ℕ → Bool)
             (position : runs.Position (library_of program given (with_choices objects choices)))
-            → Quiet program given (with_choices objects choices) q most ways position
+            → Quiet program given (with_choices objects choices) (seen told q) most ways position
             → (what : Want) → q.waits turns.pid ≡ For what
             → ComesQuiet program given (with_choices objects choices)
-            (are_with program objects choices are) (gives_up q turns.pid what turns.line.other)
-            (suc most) ways
-        by_want choices most ways position quiet (want.Unit sema) waits =
+            (are_with program objects choices are)
+            (gives_up (seen told q) turns.pid what turns.line.other) (suc most) ways
+        by_want choices most ways told position quiet (want.Unit sema) waits =
+            let seen_waits = seen_in told q turns.pid (want.Unit sema) waits in
             let asleep = subst (λ (w : Halt). StandsBy program given
-            (with_choices objects choices) position turns.pid (q.place turns.pid) w) waits
+            (with_choices objects choices) position turns.pid (q.place turns.pid) w) seen_waits
             (quiet.each turns.pid turns.is_in.low).stands in
             turns_away program given (with_choices objects choices)
-            (are_with program objects choices are) q most ways position quiet turns.pid
-            turns.is_in.low sema asleep.low turns.line waits turns.is_in.line_is turns.noted
-        by_want choices most ways position quiet (want.Partner tag) waits =
+            (are_with program objects choices are) (seen told q) most ways position quiet turns.pid
+            turns.is_in.low sema asleep.low turns.line seen_waits turns.is_in.line_is turns.noted
+        by_want choices most ways told position quiet (want.Partner tag) waits =
             turns_from_meeting program given (with_choices objects choices)
-            (are_with program objects choices are) q most ways position quiet turns.pid
-            turns.is_in.low tag turns.line waits turns.is_in.line_is turns.noted
+            (are_with program objects choices are) (seen told q) most ways position quiet turns.pid
+            turns.is_in.low tag turns.line (seen_in told q turns.pid (want.Partner tag) waits)
+            turns.is_in.line_is turns.noted
 
-    chooses_other : Chooses program q at shows mover → StepsTo q (after_of program at mover)
+    chooses_other : Chooses program q at shows mover
+        → StepsTo program given objects are is_program shown q (after_of program at mover)
     chooses_other other =
         record {
           next = gone q other.pid other.line.other;
@@ -370,10 +428,15 @@ module _ (program : Program) (given : Spot → Given) (objects : Objects)
               ∙ chooses_after program q at shows other.pid other.line other.is_at))
               (shows_gone (procs_of program) q at shows other.pid other.line.other other.is_at.low
               other.is_at.waits);
-          plays = λ most ways fresh before. one_choice q _ most false ways before
+          follows = λ one. one_follows program q other.pid other.line ending.Interrupted
+              other.is_at.line_is one;
+          plays = λ most ways told fresh before. one_choice program given objects are is_program
+              shown q _ (gone (seen told q) other.pid other.line.other) most false ways told
+              (seen_gone told q other.pid other.line.other) before
               (λ choices position quiet. chooses program given (with_choices objects choices)
-              (are_with program objects choices are) q most (false ∷ ways) position quiet other.pid
-              other.is_at.low other.line other.is_at.line_is other.is_at.waits
+              (are_with program objects choices are) (seen told q) most (false ∷ ways) position
+              quiet other.pid other.is_at.low other.line other.is_at.line_is
+              (seen_free told q other.pid other.is_at.waits)
               (by other.line.call other.choice) false ways refl);
         }
       where
@@ -390,18 +453,21 @@ module _ (program : Program) (given : Spot → Given) (objects : Objects)
       -- and that call is never to be made
       pub never : line.call ≡ call.Never
 
-    -- So each step is made, but one that ends the program, or reaches what must not be reached.
-    pub steps : NoneStays program q → CanMove (system_of program) at mover
-        → StepsTo q (after_of program at mover)
+    -- what a step may be
+    abbrev pub Stepped : Type 0
+    Stepped =
+        StepsTo program given objects are is_program shown q (after_of program at mover)
         ⊎ ((ReachesNever × ((after_of program at mover).course ≡ course.Reached))
         ⊎ ((after_of program at mover).course ≡ course.Ended))
-    steps nobody can = by (which program q at shows nobody mover can)
+
+    -- So each step is made, but one that ends the program, or reaches what must not be reached.
+    pub steps : IsWell program q → HasEnds program given objects q
+        → CanMove (system_of program) at mover → Stepped
+    steps well ends can = by (which program q at shows well mover can)
       where
         begun_so : (line : Line) (is_at : IsAtCall program q mover line)
-            → StepsTo q (after_of program at mover) ⊎ Reaches q at shows mover line is_at
-            → StepsTo q (after_of program at mover)
-            ⊎ ((ReachesNever × ((after_of program at mover).course ≡ course.Reached))
-            ⊎ ((after_of program at mover).course ≡ course.Ended))
+            → StepsTo program given objects are is_program shown q (after_of program at mover)
+            ⊎ Reaches q at shows mover line is_at → Stepped
         begun_so line is_at (inl steps) = inl steps
         begun_so line is_at (inr reaches) =
             inr (inl (
@@ -409,15 +475,19 @@ module _ (program : Program) (given : Spot → Given) (objects : Objects)
               reaches.reached,
             ))
 
-        by : Begins program q at shows mover
-            ⊎ (Turns program q at shows mover
-            ⊎ Chooses program q at shows mover
-            ⊎ Ends program q at shows mover)
-            → StepsTo q (after_of program at mover)
-            ⊎ ((ReachesNever × ((after_of program at mover).course ≡ course.Reached))
-            ⊎ ((after_of program at mover).course ≡ course.Ended))
-        by (inl one) =
-            begun_so one.line one.is_at (begins q at shows mover one.line one.is_at)
-        by (inr (inl turns)) = inl (turns_so turns)
-        by (inr (inr (inl other))) = inl (chooses_other other)
-        by (inr (inr (inr last))) = inr (inr (rw last refl))
+        by : Which program q at shows mover → Stepped
+        by (IsFirst one) =
+            begun_so one.line one.is_at (begins q at shows mover one.line one.is_at well)
+        by (IsAgain one) =
+            inl (makes_again program given objects are is_program shown q at shows mover one.line
+            one.low one.line_is one.waits one.answered well)
+        by (IsStood one) =
+            inl (stands_so program given objects are is_program shown q at shows mover one.line
+            one.low one.line_is one.waits well)
+        by (IsTurn turns) = inl (turns_so turns)
+        by (IsFailure one) =
+            inl (fails_so program given objects are is_program shown q at shows one.pid one.line
+            one.low one.line_is mover one.is one.waits one.noted
+            (ends one.pid one.line one.low one.line_is))
+        by (IsChoice other) = inl (chooses_other other)
+        by (IsEnd last) = inr (inr (rw last refl))

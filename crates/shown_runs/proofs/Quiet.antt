@@ -3,7 +3,10 @@
 use Rattle.std.proofs.Common.{Bool, Option, ℕ, ◌<◌, ◌≡◌, ◌≢◌, ◌≤◌, ◌⊎◌, inl, inr}
 use Rattle.std.proofs.Common.{if◌then◌else◌, false, Some, None, List, [], ◌∷◌, length, true}
 use Rattle.std.proofs.Common.{refl, sym, ap, ◌∙◌, subst, arith}
-use Rattle.std.specs.Prelude.{slice_get, slice_index}
+use Rattle.std.proofs.Common.{Ok}
+use Rattle.std.specs.Prelude.{⊤, replicate, slice_get, slice_index}
+use Rattle.sync_base.specs.declared.ids.RendezId.{RendezId}
+use Rattle.sync_base.specs.declared.limits.TheConstants.{TOP_LEVEL}
 use Rattle.sync_base.specs.declared.note.NoteSet.{NoteSet}
 use Rattle.sleep_core.specs.declared.phase.Phase.TheVariants as phase
 use Rattle.sleep_core.specs.State.{flags_of, level_of, nobody, phase_of, posted_as, posted_of}
@@ -16,6 +19,8 @@ use Rattle.tag_space.specs.declared.place.CallState.TheVariants.{Waiting as Wait
 use Rattle.tag_space.specs.declared.place.Place.{Place}
 use Rattle.tag_space.specs.GroupObject.{place_of, waiter_of}
 use Rattle.tag_space.specs.Members.{rendez_of_member}
+use Rattle.pipe_dev.specs.Rendezes.{reader_rendez, writer_rendez}
+use Rattle.waiting.specs.declared.call.Reply.TheVariants as reply
 use Rattle.calls.specs.declared.call.Call.TheVariants as call
 use Rattle.calls.specs.declared.line.Line.{Line}
 use Rattle.calls.specs.declared.process.Want.TheVariants as want
@@ -24,18 +29,26 @@ use Rattle.call_machines.specs.Programs.{ProgramState}
 use Rattle.call_machines.specs.Programs.ProgramState.{In}
 use Rattle.call_machines.specs.Schedules.{Position, state_of}
 use Rattle.call_machines.specs.WaitTables.WaitState.{Waits}
+use Rattle.pipe_machines.specs.PipeRuns.{CallState}
+use Rattle.pipe_machines.specs.PipeRuns.CallState.{Reads, Writes}
+use Rattle.pipe_machines.specs.ReadMachine.{FillState}
+use Rattle.pipe_machines.specs.Tries.{TryState}
+use Rattle.pipe_machines.specs.WriteMachine.{PutState}
 use Rattle.sema_machines.specs.SemaRuns.CallState.{Takes}
 use Rattle.object_machines.specs.ObjectCalls.{ObjectCall, ObjectReply, ObjectRequest, ObjectStates}
-use Rattle.object_machines.specs.ObjectCalls.{Objects, sema_of, sema_state}
+use Rattle.object_machines.specs.ObjectCalls.{Objects, pipe_at, sema_of, sema_state}
 use Rattle.space_machines.specs.MeetMachine.MeetState.{Calls}
-use Rattle.object_machines.specs.ObjectCalls.ObjectCall.{AtSema, InSpace}
+use Rattle.object_machines.specs.ObjectCalls.ObjectCall.{AtPipe, AtSema, InSpace}
 use Rattle.object_machines.specs.ObjectEnds.{AreApart, LeavesUnworn, sema_row, space_row}
 use Rattle.explored_calls.specs.LibraryCalls.{AreItsObjects, Given, Spot, library_of}
-use Rattle.explored_calls.proofs.Queued.{Amid, Halt, Queued, is_for}
+use Rattle.explored_calls.proofs.PipePhases.{IsQuiet}
+use Rattle.explored_calls.proofs.Queued.{Halt, Queued, is_for}
+use Rattle.explored_calls.proofs.Queued.Amid.{Blocks, ReadsOn, Wrote}
 use Rattle.explored_calls.proofs.Queued.Halt.{For, Free, Stays as IsAmid}
 use Rattle.explored_calls.proofs.SpaceFacts.{AtMostOne}
 use Rattle.shown_runs.specs.ShownRuns.{arrived, offered_at, rendez_at, spot_of}
 use Rattle.shown_runs.proofs.Acts.{IsSized, Reached, Stays, SuchSystem}
+use Rattle.shown_runs.proofs.Piped.{Piped, arrived_quiet, at_pipe_quiet}
 
 -- the line of a tag with which this member waits, or nobody
 abbrev pub line_of : Option ℕ → List ℕ
@@ -48,10 +61,10 @@ abbrev pub such_calls : Program → (Spot → Given) → Objects
 such_calls program given objects =
     record { system = library_of program given objects; comes = LeavesUnworn }
 
--- no process is amid a call of a pipe
-abbrev pub NoneStays : Program → Queued → Type 0
-NoneStays program q =
-    (pid : ℕ) → pid < procs_of program → (amid : Amid) → q.waits pid ≢ IsAmid amid
+-- a process that has put no write which does not stand
+abbrev pub IsNoWrite : Halt → Type 0
+IsNoWrite (IsAmid Wrote) = ⊥
+IsNoWrite other = ⊤
 
 module _ (program : Program) (given : Spot → Given) (objects : Objects) where
   -- the semaphore with this number, as the position has it
@@ -161,12 +174,108 @@ module _ (program : Program) (given : Spot → Given) (objects : Objects) where
     pub waiting : (place_at at pid).state
         ≡ Waiting_in (record { 0 = tag }) (given (spot_of pid place)).value
 
-  -- By what it waits for: nothing, a unit, or a partner. Nobody is amid a call of a pipe.
+  -- a read or a write that was told to wait with this number, in this Rendez
+  pub data WasTold (spot : Spot) (line : Line) (pipe number : ℕ) (rendez_is : RendezId)
+      (at : CallState) : Type 0 where
+    -- a read, in the Rendez of the reader
+    ToRead : (room : ℕ) → line.call ≡ call.Read pipe room None
+        → rendez_is ≡ reader_rendez (pipe_at objects pipe).row
+        → at ≡ Reads (replicate room 0)
+        (TryState.Tries (FillState.Told (Ok (reply.Wait number))))
+        → WasTold spot line pipe number rendez_is at
+    -- a write, in that of its writer
+    ToWrite : (bytes : ℕ) → line.call ≡ call.Write pipe bytes None
+        → rendez_is ≡ writer_rendez (pipe_at objects pipe).row (given spot).writer
+        → at ≡ Writes (given spot).writer (replicate bytes 0)
+        (TryState.Tries (PutState.Told (reply.Wait number)))
+        → WasTold spot line pipe number rendez_is at
+
+  -- it was told to wait at a direction, and is about to sleep
+  pub record IsTold (at : Position (library_of program given objects)) (pid place : ℕ) : Type 0
+    where
+      -- the line of the place where it is
+      pub line : Line
+      -- the direction of its call
+      pub pipe : ℕ
+      -- the number with which it was told to wait
+      pub number : ℕ
+      -- the Rendez in which it is to sleep
+      pub rendez_is : RendezId
+      -- where it is in its call
+      pub made : CallState
+      -- the program has that line there
+      pub line_is : slice_get program.lines place ≡ Some line
+      -- that direction is one of the program's
+      pub low : pipe < length program.pipes
+      -- it can sleep with that number
+      pub top : number ≢ TOP_LEVEL
+      -- its call is a read or a write that was told so
+      pub told : WasTold (spot_of pid place) line pipe number rendez_is made
+      -- its machine is there
+      pub state_is : state_of (library_of program given objects) at pid
+          ≡ In (spot_of pid place) (AtPipe pipe made)
+      -- it is in no sleep and no wakeup
+      pub phase_is : phase_of at.world pid ≡ phase.Idle
+
+  -- or it has put a write, which is to stand
+  pub record HasPutAt (at : Position (library_of program given objects)) (pid place : ℕ) : Type 0
+    where
+      -- the line of the place where it is
+      pub line : Line
+      -- the direction of its call
+      pub pipe : ℕ
+      -- how many bytes it has put
+      pub bytes : ℕ
+      -- the number of its write
+      pub number : ℕ
+      -- the program has that line there
+      pub line_is : slice_get program.lines place ≡ Some line
+      -- that direction is one of the program's
+      pub low : pipe < length program.pipes
+      -- its call is a write without a deadline
+      pub made : line.call ≡ call.Write pipe bytes None
+      -- its machine is there
+      pub state_is : state_of (library_of program given objects) at pid
+          ≡ In (spot_of pid place) (AtPipe pipe (Writes (given (spot_of pid place)).writer
+          (replicate bytes 0) (TryState.Tries (PutState.Standing number))))
+      -- it is in no sleep and no wakeup
+      pub phase_is : phase_of at.world pid ≡ phase.Idle
+
+  -- By what it waits for: nothing, a unit, or a partner; or it is amid a call of a pipe.
   abbrev pub StandsBy : Position (library_of program given objects) → ℕ → ℕ → Halt → Type 0
   StandsBy at pid place Free = IsIdle at pid place
   StandsBy at pid place (For (want.Unit sema)) = IsAsleep at pid place sema
   StandsBy at pid place (For (want.Partner tag)) = IsMeeting at pid place tag
-  StandsBy at pid place (IsAmid amid) = ⊥
+  StandsBy at pid place (IsAmid Blocks) = IsTold at pid place
+  StandsBy at pid place (IsAmid Wrote) = HasPutAt at pid place
+  StandsBy at pid place (IsAmid (ReadsOn room)) = ⊥
+
+  -- one that has put no write
+  pub quiet_by : (at : Position (library_of program given objects)) (pid place : ℕ) (waits : Halt)
+      → IsNoWrite waits → StandsBy at pid place waits
+      → IsQuiet objects (state_of (library_of program given objects) at pid)
+  quiet_by at pid place Free no_write idle =
+      subst (IsQuiet objects) (sym idle.state_is) (arrived_quiet program given objects pid place)
+  quiet_by at pid place (For (want.Unit sema)) no_write asleep =
+      subst (IsQuiet objects) (sym asleep.state_is) (record { puts = λ pipe. refl; awake = tt })
+  quiet_by at pid place (For (want.Partner tag)) no_write meets =
+      subst (IsQuiet objects) (sym meets.state_is) (record { puts = λ pipe. refl; awake = tt })
+  quiet_by at pid place (IsAmid Blocks) no_write told =
+      subst (IsQuiet objects) (sym told.state_is) (by told.made told.told)
+    where
+      by : (made : CallState)
+          → WasTold (spot_of pid place) told.line told.pipe told.number told.rendez_is made
+          → IsQuiet objects (In (spot_of pid place) (AtPipe told.pipe made))
+      by made (ToRead room is rendez_is at_is) =
+          subst (λ (c : CallState). IsQuiet objects (In (spot_of pid place) (AtPipe told.pipe c)))
+          (sym at_is)
+          (at_pipe_quiet program given objects (spot_of pid place) told.pipe _ refl (λ over. over))
+      by made (ToWrite bytes is rendez_is at_is) =
+          subst (λ (c : CallState). IsQuiet objects (In (spot_of pid place) (AtPipe told.pipe c)))
+          (sym at_is)
+          (at_pipe_quiet program given objects (spot_of pid place) told.pipe _ refl (λ over. over))
+  quiet_by at pid place (IsAmid Wrote) no_write put = absurd no_write
+  quiet_by at pid place (IsAmid (ReadsOn room)) no_write none = absurd none
 
   -- how a process stands, by its place, its wait and its notes
   pub record Stands (at : Position (library_of program given objects)) (pid place : ℕ)
@@ -221,13 +330,8 @@ module _ (program : Program) (given : Spot → Given) (objects : Objects) where
     pub tags : (tag : ℕ) → q.line (want.Partner tag) ≡ line_of (waiter_of at.object.space tag)
     -- of each tag one member waits at most
     pub apart : AtMostOne at.object.space
-
-  -- so nobody is amid a call of a pipe
-  pub none_stays : (q : Queued) (most : ℕ) (ways : List Bool)
-      (at : Position (library_of program given objects))
-      → Quiet q most ways at → NoneStays program q
-  none_stays q most ways at quiet pid low amid stays =
-      subst (λ (w : Halt). StandsBy at pid (q.place pid) w) stays (quiet.each pid low).stands
+    -- the directions are as the lines say
+    pub piped : Piped program given objects q.pipes most at
 
   -- ---- what stays
 
@@ -308,6 +412,8 @@ module _ (program : Program) (given : Spot → Given) (objects : Objects) where
     pub choices : next.object.choices ≡ at.object.choices
     -- and so does the space
     pub space : next.object.space ≡ at.object.space
+    -- and so do the directions
+    pub pipes : next.object.pipes ≡ at.object.pipes
 
   -- what a semaphore has of a seat stays
   pub record SameSeat (s t : SemaState) (pid : ℕ) : Type 0 where
@@ -326,6 +432,7 @@ module _ (program : Program) (given : Spot → Given) (objects : Objects) where
         elsewhere = λ other apart. ap (λ (o : ObjectStates). sema_state objects o other) same;
         choices = ap (λ (o : ObjectStates). o.choices) same;
         space = ap (λ (o : ObjectStates). o.space) same;
+        pipes = ap (λ (o : ObjectStates). o.pipes) same;
       }
 
   -- ---- a process of which little changes
@@ -481,7 +588,33 @@ module _ (program : Program) (given : Spot → Given) (objects : Objects) where
                 (sym space.place));
             waiting = ap (λ (p : Place). p.state) space.place ∙ meets.waiting;
           }
-      by (IsAmid amid) none = absurd none
+      by (IsAmid Blocks) told =
+          record {
+            line = told.line;
+            pipe = told.pipe;
+            number = told.number;
+            rendez_is = told.rendez_is;
+            made = told.made;
+            line_is = told.line_is;
+            low = told.low;
+            top = told.top;
+            told = told.told;
+            state_is = state ∙ told.state_is;
+            phase_is = stage ∙ told.phase_is;
+          }
+      by (IsAmid Wrote) put =
+          record {
+            line = put.line;
+            pipe = put.pipe;
+            bytes = put.bytes;
+            number = put.number;
+            line_is = put.line_is;
+            low = put.low;
+            made = put.made;
+            state_is = state ∙ put.state_is;
+            phase_is = stage ∙ put.phase_is;
+          }
+      by (IsAmid (ReadsOn room)) none = absurd none
 
   -- two members that differ have two Rendez
   pub meetings_apart : (pid other : ℕ) → pid ≢ other → meeting pid ≢ meeting other

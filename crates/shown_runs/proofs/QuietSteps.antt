@@ -12,19 +12,24 @@ use Rattle.semaphore.specs.Units.{SemaState, grants_of, stage_of}
 use Rattle.tag_space.specs.declared.place.Place.{Place}
 use Rattle.tag_space.specs.GroupObject.{place_of, waiter_of}
 use Rattle.calls.specs.declared.process.Want.TheVariants as want
+use Rattle.calls.specs.Pipes.{Direction}
 use Rattle.calls.specs.Program.{Program, procs_of}
 use Rattle.call_machines.specs.Schedules.{Position, state_of}
 use Rattle.object_machines.specs.ObjectCalls.{Objects, sema_state}
 use Rattle.explored_calls.specs.LibraryCalls.{AreItsObjects, Given, Spot, library_of}
+use Rattle.explored_calls.proofs.PipePhases.{IsQuiet}
 use Rattle.explored_calls.proofs.Queued.{Halt, Queued}
 use Rattle.explored_calls.proofs.Queued.Halt.{Free}
 use Rattle.shown_runs.proofs.Acts.{IsSized, Reached, Stays}
+use Rattle.shown_runs.proofs.Piped.{Piped, keeps_one, keeps_two, of_no_member, of_no_seat}
+use Rattle.shown_runs.proofs.Piped.{piped_on}
 use Rattle.explored_calls.proofs.SpaceFacts.{AtMostOne}
 use Rattle.shown_runs.proofs.Quiet.{such_calls}
 use Rattle.shown_runs.proofs.Quiet.{Placed, SpaceFrame, is_meeting, line_of, meeting, meeting_apart}
 use Rattle.shown_runs.proofs.Quiet.{frame_meeting, meetings_apart, placed_still, space_by}
 use Rattle.shown_runs.proofs.Quiet.{space_words}
-use Rattle.shown_runs.proofs.Quiet.{Changed, Frame, IsIdle, IsLined, Quiet, SameSeat, Stands}
+use Rattle.shown_runs.proofs.Quiet.{Changed, Frame, IsIdle, IsLined, IsNoWrite, Quiet, SameSeat}
+use Rattle.shown_runs.proofs.Quiet.{Stands, StandsBy, quiet_by}
 use Rattle.shown_runs.proofs.Quiet.{Rests, frame_far, rendez, rests_still, sema_at, stands_still}
 
 -- a process of the explorer's machine is as it was
@@ -95,6 +100,12 @@ module _ (program : Program) (given : Spot → Given) (objects : Objects)
         → now.line (want.Unit other) ≡ q.line (want.Unit other)
     -- and those who wait for partners stay
     pub partners : (tag : ℕ) → now.line (want.Partner tag) ≡ q.line (want.Partner tag)
+    -- the process had put no write before
+    pub no_write : IsNoWrite (q.waits pid)
+    -- and has put none then
+    pub no_write_now : IsNoWrite (now.waits pid)
+    -- the directions are those of before
+    pub pipes : now.pipes ≡ q.pipes
 
   -- where the space stays the lines of tags are right still
   pub tags_stay : (q now : Queued) (at next : Position (library_of program given objects))
@@ -125,6 +136,16 @@ module _ (program : Program) (given : Spot → Given) (objects : Objects)
             (sym step.changed.space) quiet.roomy;
         tags = tags_stay q now at next step.changed.space step.partners quiet.tags;
         apart = subst AtMostOne (sym step.changed.space) quiet.apart;
+        piped = subst (λ (l : List Direction). Piped program given objects l (suc most) next)
+            (sym step.pipes)
+            (piped_on program given objects q.pipes most (suc most) at next quiet.piped
+            (keeps_one program given objects at next pid (rendez program given objects sema pid)
+            step.stays.states step.stays.posted step.stays.levels
+            (of_no_seat program given objects are sema pid there low) step.changed.pipes
+            (quiet_by program given objects at pid (q.place pid) (q.waits pid) step.no_write
+            (quiet.each pid low).stands)
+            (quiet_by program given objects next pid (now.place pid) (now.waits pid)
+            step.no_write_now step.own.stands)) (omega arith));
       }
     where
       each_by : (other : ℕ) → other < procs_of program → (other ≡ pid) ⊎ (other ≢ pid)
@@ -207,6 +228,12 @@ module _ (program : Program) (given : Spot → Given) (objects : Objects)
     pub lines : (sema : ℕ) → now.line (want.Unit sema) ≡ q.line (want.Unit sema)
     -- and those who wait for partners stay
     pub partners : (tag : ℕ) → now.line (want.Partner tag) ≡ q.line (want.Partner tag)
+    -- it is a process of the program
+    pub low : pid < procs_of program
+    -- the directions of the library stay
+    pub pipes_stay : next.object.pipes ≡ at.object.pipes
+    -- and so do those of the lines
+    pub pipes : now.pipes ≡ q.pipes
 
   -- so a quiet position leads to a quiet one
   pub still_step : (q now : Queued) (most : ℕ) (ways later : List Bool)
@@ -234,8 +261,25 @@ module _ (program : Program) (given : Spot → Given) (objects : Objects)
             (sym step.space) quiet.roomy;
         tags = tags_stay q now at next step.space step.partners quiet.tags;
         apart = subst AtMostOne (sym step.space) quiet.apart;
+        piped = subst (λ (l : List Direction). Piped program given objects l (suc most) next)
+            (sym step.pipes)
+            (piped_on program given objects q.pipes most (suc most) at next quiet.piped
+            (keeps_two program given objects at next pid pid
+            (λ other far too. step.stays.states other far)
+            (λ pipe k of. posted_by k (same_or_not k r))
+            (λ pipe k of. level_by k (same_or_not k r)) step.pipes_stay was_quiet is_quiet
+            was_quiet is_quiet) (omega arith));
       }
     where
+      was_quiet : IsQuiet objects (state_of (library_of program given objects) at pid)
+      was_quiet =
+          quiet_by program given objects at pid (q.place pid) Free tt
+          (subst (λ (w : Halt). StandsBy program given objects at pid (q.place pid) w) step.waited
+          (quiet.each pid step.low).stands)
+
+      is_quiet : IsQuiet objects (state_of (library_of program given objects) next pid)
+      is_quiet = quiet_by program given objects next pid (now.place pid) Free tt step.idle
+
       sema_same : (sema : ℕ)
           → sema_at program given objects next sema ≡ sema_at program given objects at sema
       sema_same sema =
@@ -364,6 +408,20 @@ module _ (program : Program) (given : Spot → Given) (objects : Objects)
     pub tags : (tag : ℕ) → now.line (want.Partner tag) ≡ line_of (waiter_of places tag)
     -- of each tag one member waits at most
     pub apart : AtMostOne places
+    -- it is a process of the program
+    pub low : pid < procs_of program
+    -- the directions of the library stay
+    pub pipes_stay : next.object.pipes ≡ at.object.pipes
+    -- and so do those of the lines
+    pub pipes : now.pipes ≡ q.pipes
+    -- the process had put no write before
+    pub no_write : IsNoWrite (q.waits pid)
+    -- and has put none then
+    pub no_write_now : IsNoWrite (now.waits pid)
+    -- nor had the one with that seat
+    pub no_write_seat : IsNoWrite (q.waits seat)
+    -- nor has that one then
+    pub no_write_seat_now : IsNoWrite (now.waits seat)
 
   -- so a quiet position leads to a quiet one
   pub meet_step : (q now : Queued) (most : ℕ) (ways : List Bool)
@@ -393,6 +451,21 @@ module _ (program : Program) (given : Spot → Given) (objects : Objects)
         tags = λ tag. step.tags tag
             ∙ ap (λ (l : List Place). line_of (waiter_of l tag)) (sym step.space);
         apart = subst AtMostOne (sym step.space) step.apart;
+        piped = subst (λ (l : List Direction). Piped program given objects l (suc most) next)
+            (sym step.pipes)
+            (piped_on program given objects q.pipes most (suc most) at next quiet.piped
+            (keeps_two program given objects at next pid seat step.states
+            (λ pipe k of. step.posted k (of_no_member program given objects are seat low pipe k of))
+            (λ pipe k of. step.levels k (of_no_member program given objects are seat low pipe k of))
+            step.pipes_stay
+            (quiet_by program given objects at pid (q.place pid) (q.waits pid) step.no_write
+            (quiet.each pid step.low).stands)
+            (quiet_by program given objects next pid (now.place pid) (now.waits pid)
+            step.no_write_now step.own.stands)
+            (quiet_by program given objects at seat (q.place seat) (q.waits seat)
+            step.no_write_seat (quiet.each seat low).stands)
+            (quiet_by program given objects next seat (now.place seat) (now.waits seat)
+            step.no_write_seat_now step.own_seat.stands)) (omega arith));
       }
     where
       sema_same : (sema : ℕ)

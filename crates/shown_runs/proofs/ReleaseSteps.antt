@@ -35,6 +35,7 @@ use Rattle.object_machines.specs.ObjectEnds.{is_sema_unworn}
 use Rattle.explored_calls.specs.LibraryCalls.{AreItsObjects, Given, Spot, library_of}
 use Rattle.explored_calls.proofs.ExplorerSteps.{units_of, with_units}
 use Rattle.explored_calls.proofs.LineLemmas.{stands_taken}
+use Rattle.explored_calls.proofs.PipePhases.{IsQuiet}
 use Rattle.explored_calls.proofs.Queued.{AreLines, Halt, Queued, gone, is_for, itself, same_want}
 use Rattle.explored_calls.proofs.Queued.{served_at}
 use Rattle.explored_calls.proofs.Queued.{serves, stands_nowhere}
@@ -45,7 +46,8 @@ use Rattle.shown_runs.proofs.CallSteps.{apart_numbers, at_call, at_else, at_self
 use Rattle.shown_runs.proofs.CallSteps.{changed_after, every, frame_words, goes_by_request}
 use Rattle.shown_runs.proofs.CallSteps.{in_library, known_idle, leads_to, placed_of, rests_of}
 use Rattle.explored_calls.proofs.SpaceFacts.{AtMostOne}
-use Rattle.shown_runs.proofs.Quiet.{such_calls}
+use Rattle.shown_runs.proofs.Piped.{Piped, keeps_two, piped_on}
+use Rattle.shown_runs.proofs.Quiet.{quiet_by, such_calls}
 use Rattle.shown_runs.proofs.Quiet.{SpaceFrame, placed_still, space_words}
 use Rattle.shown_runs.proofs.Quiet.{Changed, Frame, IsAsleep, IsLined, Quiet, Rests, SameSeat}
 use Rattle.shown_runs.proofs.Quiet.{Stands}
@@ -193,6 +195,7 @@ module _ (program : Program) (given : Spot → Given) (objects : Objects)
         values = values_beside;
         lines = lines_beside;
         partners = λ tag. refl;
+        pipes = refl;
       })
     where
       so : ServesNobody (sema_at program given objects at sema) count
@@ -393,6 +396,35 @@ module _ (program : Program) (given : Spot → Given) (objects : Objects)
                 (space_frame pid) (omega arith);
           }
 
+    waking : state_of (library_of program given objects) led.next by
+        ≡ In (spot_of by (q.place by)) (AtSema sema (Gives count
+        (Waking ((sema_at program given objects at sema).value + count) x
+        (grants_of (named_one (served_all (sema_at program given objects at sema) count)) x))))
+    waking =
+        led.known.now.state_is
+        ∙ ap (λ (told : HoldReply). (library_of program given objects).machine.goes_on
+        (In (spot_of by (q.place by)) (AtSema sema (Gives count Releasing)))
+        (Outcome.Replied (BySema told))) so.answered.told_is
+
+    -- the directions stay
+    piped_led : Piped program given objects q.pipes (suc most) led.next
+    piped_led =
+        piped_on program given objects q.pipes most (suc most) at led.next quiet.piped
+        (keeps_two program given objects at led.next by by
+        (λ pid far too. led.stays.states pid far)
+        (λ pipe k of. words k) (λ pipe k of. levels k) changed.pipes was_quiet is_quiet was_quiet
+        is_quiet) (omega arith)
+      where
+        was_quiet : IsQuiet objects (state_of (library_of program given objects) at by)
+        was_quiet =
+            quiet_by program given objects at by (q.place by) Free tt
+            (subst (λ (w : Halt). StandsBy program given objects at by (q.place by) w) none
+            (quiet.each by low).stands)
+
+        is_quiet : IsQuiet objects (state_of (library_of program given objects) led.next by)
+        is_quiet =
+            subst (IsQuiet objects) (sym waking) (record { puts = λ pipe. refl; awake = tt })
+
     serving : Serving program given objects all_served sema by (x ∷ names) names (suc most) ways
         led.next
     serving =
@@ -435,17 +467,8 @@ module _ (program : Program) (given : Spot → Given) (objects : Objects)
           tags = tags_stay program given objects are q all_served at led.next changed.space
               (λ tag. refl) quiet.tags;
           apart = subst AtMostOne (sym changed.space) quiet.apart;
+          piped = piped_led;
         }
-
-    waking : state_of (library_of program given objects) led.next by
-        ≡ In (spot_of by (q.place by)) (AtSema sema (Gives count
-        (Waking ((sema_at program given objects at sema).value + count) x
-        (grants_of (named_one (served_all (sema_at program given objects at sema) count)) x))))
-    waking =
-        led.known.now.state_is
-        ∙ ap (λ (told : HoldReply). (library_of program given objects).machine.goes_on
-        (In (spot_of by (q.place by)) (AtSema sema (Gives count Releasing)))
-        (Outcome.Replied (BySema told))) so.answered.told_is
 
     under : grants_of (named_one (served_all (sema_at program given objects at sema) count)) x
         ≤ grants_of (sema_at program given objects led.next sema) x

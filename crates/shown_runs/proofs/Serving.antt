@@ -44,6 +44,7 @@ use Rattle.shown_runs.proofs.Acts.{Here, IsSized, Known, Leads, Reached, asks, g
 use Rattle.shown_runs.proofs.Acts.{goes_on_well, led_so, on, returns}
 use Rattle.shown_runs.proofs.CallSteps.{in_library, leads_to, row_low}
 use Rattle.explored_calls.proofs.SpaceFacts.{AtMostOne}
+use Rattle.shown_runs.proofs.Piped.{Piped}
 use Rattle.shown_runs.proofs.Quiet.{such_calls}
 use Rattle.shown_runs.proofs.Quiet.{Placed, line_of}
 use Rattle.shown_runs.proofs.Quiet.{IsLined, Rests, Stands}
@@ -124,6 +125,8 @@ module _ (program : Program) (given : Spot → Given) (objects : Objects) where
         ≡ line_of (waiter_of at.object.space tag)
     -- of each tag one member waits at most
     pub apart : AtMostOne at.object.space
+    -- the directions are as the lines say
+    pub piped : Piped program given objects q.pipes most at
 
   -- one semaphore of the objects has become this
   abbrev pub with_sema : ObjectStates → ℕ → SemaState → ObjectStates

@@ -35,6 +35,7 @@ use Rattle.object_machines.specs.ObjectCalls.ObjectRequest.{OfSema}
 use Rattle.object_machines.specs.ObjectEnds.{is_sema_unworn}
 use Rattle.explored_calls.specs.LibraryCalls.{AreItsObjects, Given, Spot, library_of}
 use Rattle.explored_calls.proofs.Lists.{at_one}
+use Rattle.explored_calls.proofs.PipePhases.{IsQuiet}
 use Rattle.explored_calls.proofs.Queued.{Halt, Queued, gone, itself}
 use Rattle.explored_calls.proofs.Queued.Halt.{For, Free}
 use Rattle.shown_runs.specs.ShownRuns.{arrived, rendez_at, spot_of}
@@ -42,6 +43,8 @@ use Rattle.shown_runs.proofs.Acts.{Leads, asks, wakes}
 use Rattle.shown_runs.proofs.CallSteps.{apart_numbers, at_else, at_self, changed_after, every}
 use Rattle.shown_runs.proofs.CallSteps.{frame_words, in_library, leads_to, row_low}
 use Rattle.explored_calls.proofs.SpaceFacts.{AtMostOne}
+use Rattle.shown_runs.proofs.Piped.{KeepsPipes, Piped, arrived_quiet, keeps_two, of_no_seat}
+use Rattle.shown_runs.proofs.Piped.{piped_on}
 use Rattle.shown_runs.proofs.Quiet.{such_calls}
 use Rattle.shown_runs.proofs.Quiet.{Placed, SpaceFrame, meeting_apart, placed_still, space_by}
 use Rattle.shown_runs.proofs.Quiet.{space_words}
@@ -166,6 +169,7 @@ module _ (program : Program) (given : Spot → Given) (objects : Objects)
               ∙ get_or-set_other at.object.semas sema other _ _ apart;
           choices = ap (λ (o : ObjectStates). o.choices) goes.known.now.object_is;
           space = ap (λ (o : ObjectStates). o.space) goes.known.now.object_is;
+          pipes = ap (λ (o : ObjectStates). o.pipes) goes.known.now.object_is;
         }
 
     same_seat : (pid : ℕ) → pid ≢ x
@@ -344,7 +348,34 @@ module _ (program : Program) (given : Spot → Given) (objects : Objects)
           tags = tags_stay program given objects are q q at goes.next changed.space (λ tag. refl)
               serving.tags;
           apart = subst AtMostOne (sym changed.space) serving.apart;
+          piped = piped_on program given objects q.pipes most most at goes.next serving.piped keeps
+              (omega arith);
         }
+      where
+        posted : (k : ℕ) → k ≢ rendez program given objects sema x
+            → posted_of goes.next.world k ≡ posted_of at.world k
+        posted k far = goes.stays.posted k far ∙ woken.stays.posted k far
+
+        levels : (k : ℕ) → k ≢ rendez program given objects sema x
+            → level_of goes.next.world k ≡ level_of at.world k
+        levels k far = goes.stays.levels k far ∙ woken.stays.levels k far
+
+        keeps : KeepsPipes program given objects at goes.next
+        keeps =
+            keeps_two program given objects at goes.next by x state_stays
+            (λ pipe k of. posted k (of_no_seat program given objects are sema x there x_low pipe k
+            of))
+            (λ pipe k of. levels k (of_no_seat program given objects are sema x there x_low pipe k
+            of))
+            changed.pipes
+            (subst (IsQuiet objects) (sym waking) (record { puts = λ pipe. refl; awake = tt }))
+            (subst (IsQuiet objects)
+            (sym (goes.stays.states by by_apart ∙ woken.known.now.state_is))
+            (record { puts = λ pipe. refl; awake = tt }))
+            (subst (IsQuiet objects) (sym one.state_is)
+            (record { puts = λ pipe. refl; awake = tt }))
+            (subst (IsQuiet objects) (sym goes.known.now.state_is)
+            (arrived_quiet program given objects x one.line.next))
 
     -- So the first of them is woken and goes on, and the next one is to be named.
     pub wakes_one : IsNaming q sema by xs names most ways spot count sum
@@ -374,7 +405,10 @@ module _ (program : Program) (given : Spot → Given) (objects : Objects)
         (alike : (pid : ℕ)
         → SameSeat program given objects (sema_at program given objects at sema) t pid)
         (lined : IsLined program given objects t (slice_index q.values sema)
-        (q.line (want.Unit sema)) now) where
+        (q.line (want.Unit sema)) now)
+        (goes_quiet : IsQuiet objects ((library_of program given objects).machine.goes_on
+        (In (spot_of by place) (AtSema sema (Gives count (Naming sum))))
+        (Outcome.Replied (BySema (record { first = told; second = None }))))) where
       asked : Leads (such_calls program given objects) by by
           (rendez program given objects sema by)
           (record {
@@ -479,6 +513,23 @@ module _ (program : Program) (given : Spot → Given) (objects : Objects)
       apart_asked : AtMostOne asked.next.object.space
       apart_asked = subst AtMostOne (sym asked_changed.space) serving.apart
 
+      -- the directions stay
+      piped_asked : Piped program given objects q.pipes most asked.next
+      piped_asked =
+          piped_on program given objects q.pipes most most at asked.next serving.piped
+          (keeps_two program given objects at asked.next by by
+          (λ pid far too. asked.stays.states pid far)
+          (λ pipe k of. every _ _ _ asked.stays.posted asked.known.now.posted_is k)
+          (λ pipe k of. every _ _ _ asked.stays.levels asked.known.now.level_is k)
+          asked_changed.pipes was_quiet is_quiet was_quiet is_quiet) (omega arith)
+        where
+          was_quiet : IsQuiet objects (state_of (library_of program given objects) at by)
+          was_quiet =
+              subst (IsQuiet objects) (sym naming) (record { puts = λ pipe. refl; awake = tt })
+
+          is_quiet : IsQuiet objects (state_of (library_of program given objects) asked.next by)
+          is_quiet = subst (IsQuiet objects) (sym asked_state) goes_quiet
+
       lined_asked : (other : ℕ) → other < length program.values → other ≢ sema
           → IsLined program given objects (sema_at program given objects asked.next other)
           (slice_index q.values other) (q.line (want.Unit other)) []
@@ -512,6 +563,7 @@ module _ (program : Program) (given : Spot → Given) (objects : Objects)
             tags = tags_stay program given objects are q q at asked.next asked_changed.space
                 (λ tag. refl) serving.tags;
             apart = apart_asked;
+            piped = piped_asked;
           }
         where
           apart_from : (pid : ℕ) → stands_in served pid ≡ true → pid ≢ by
@@ -560,6 +612,7 @@ module _ (program : Program) (given : Spot → Given) (objects : Objects)
             tags = tags_stay program given objects are q (gone q by line.next) at asked.next
                 asked_changed.space (λ tag. refl) serving.tags;
             apart = apart_asked;
+            piped = piped_asked;
           }
         where
           own : Stands program given objects asked.next by line.next Free (q.notes by) most
@@ -619,7 +672,10 @@ module _ (program : Program) (given : Spot → Given) (objects : Objects)
           next = _;
           quiet = quiet_now [] [] [] at serving naming reply.NoWake
               (sema_at program given objects at sema) none refl
-              (λ pid. record { stage = refl; grants = refl }) serving.lined_here refl refl
+              (λ pid. record { stage = refl; grants = refl }) serving.lined_here
+              (subst (IsQuiet objects)
+              (sym (leads_to program given objects by place line ending.Done line_is))
+              (arrived_quiet program given objects by line.next)) refl refl
               (leads_to program given objects by place line ending.Done line_is);
         }
     wakes_all (y ∷ names) at serving naming =
@@ -637,15 +693,18 @@ module _ (program : Program) (given : Spot → Given) (objects : Objects)
         let on = serving_on (y ∷ names) (y ∷ names) names at serving naming
         (reply.Wake y (grants_of (sema_at program given objects at sema) y))
         (named_one (sema_at program given objects at sema)) first refl
-        (λ pid. record { stage = refl; grants = refl }) line_now in
+        (λ pid. record { stage = refl; grants = refl }) line_now
+        (record { puts = λ pipe. refl; awake = tt }) in
         let waking = asked_state (y ∷ names) (y ∷ names) names at serving naming
         (reply.Wake y (grants_of (sema_at program given objects at sema) y))
         (named_one (sema_at program given objects at sema)) first refl
-        (λ pid. record { stage = refl; grants = refl }) line_now in
+        (λ pid. record { stage = refl; grants = refl }) line_now
+        (record { puts = λ pipe. refl; awake = tt }) in
         let changed = asked_changed (y ∷ names) (y ∷ names) names at serving naming
         (reply.Wake y (grants_of (sema_at program given objects at sema) y))
         (named_one (sema_at program given objects at sema)) first refl
-        (λ pid. record { stage = refl; grants = refl }) line_now in
+        (λ pid. record { stage = refl; grants = refl }) line_now
+        (record { puts = λ pipe. refl; awake = tt }) in
         let under = ap (λ (s : SemaState). grants_of s y) changed.here in
         let woken = wakes_one q sema by y names names most ways _ there low (spot_of by place) count
         sum _ on waking (omega (arith, under)) in

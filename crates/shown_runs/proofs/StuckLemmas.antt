@@ -1,6 +1,6 @@
 -- Where the explorer's machine is stuck each process has ended, or waits without notes; and one of
 -- them waits where it is not at the head of its loop.
-use Rattle.std.proofs.Common.{◌≡◌, ◌⊎◌, inl, inr, ℕ, zero, suc, ◌+◌, ◌-◌, ◌<◌, ◌==◌}
+use Rattle.std.proofs.Common.{◌≡◌, ◌≢◌, ℕ, zero, suc, ◌+◌, ◌-◌, ◌<◌, ◌==◌}
 use Rattle.std.proofs.Common.{Bool, if◌then◌else◌, true, false, not, ◌&&◌, Option, Some, None}
 use Rattle.std.proofs.Common.{List, nat_lt, refl, sym, ap, ◌∙◌, arith}
 use Rattle.std.specs.Prelude.{slice_get}
@@ -16,15 +16,15 @@ use Rattle.calls.specs.declared.process.Want.{Want}
 use Rattle.calls.specs.Lines.{has_notes}
 use Rattle.calls.specs.Machine.{system_of}
 use Rattle.calls.specs.Position.{Position, by_course, can_end, can_turn, ending_of, moves}
-use Rattle.calls.specs.Position.{status_of}
+use Rattle.calls.specs.Position.{is_answered, status_of}
 use Rattle.calls.specs.Position.{status_of_one, turning_at, turning_of_one}
 use Rattle.calls.specs.Program.{Program, procs_of}
 use Rattle.calls.specs.Timers.{is_early}
 use Rattle.explored_calls.proofs.ExplorerSteps.{begins_ready, waits_ready}
 use Rattle.explored_calls.proofs.Queued.{Halt, Queued, Shows, process_of}
+use Rattle.explored_calls.proofs.Queued.Amid.{Blocks, ReadsOn, Wrote}
 use Rattle.explored_calls.proofs.Queued.Halt.{For, Free, Stays}
 use Rattle.shown_runs.specs.ShownRuns.{AreShownCalls, IsShownCall}
-use Rattle.shown_runs.proofs.Quiet.{NoneStays}
 
 -- a number below the bound that passes the test
 pub record IsFound (test : ℕ → Bool) (bound : ℕ) : Type 0 where
@@ -70,10 +70,10 @@ both_so true false is = (refl, refl)
 both_so false other is = cc
 
 -- a call that is shown does not rest by itself
-never_early : (processes : List Process) (made : Call) → IsShownCall made
-    → is_early processes made ≡ false
-never_early processes (call.Ticks now) shown = absurd shown
-never_early processes made shown = refl
+never_early : (program : Program) (processes : List Process) (made : Call)
+    → IsShownCall program made → is_early processes made ≡ false
+never_early program processes (call.Ticks now) shown = absurd shown
+never_early program processes made shown = refl
 
 module _ (program : Program) (shown : AreShownCalls program) (q : Queued) (at : Position)
     (shows : Shows (procs_of program) q at)
@@ -118,33 +118,117 @@ module _ (program : Program) (shown : AreShownCalls program) (q : Queued) (at : 
     -- it has no notes that would end its wait
     pub none : has_notes (q.notes pid) ≡ false
 
-  -- Each process is one or the other.
-  pub each_stopped : NoneStays program q → (pid : ℕ) → pid < procs_of program
-      → HasEndedAt pid ⊎ WaitsAt pid
-  each_stopped none_amid pid low = by_line (slice_get program.lines (q.place pid)) refl
+  -- or waits so to make its call again, which would not be answered
+  pub record BlocksAt (pid : ℕ) : Type 0 where
+    -- the line in whose call it waits
+    pub line : Line
+    -- its place has that line in the program
+    pub line_is : slice_get program.lines (q.place pid) ≡ Some line
+    -- it waits to make that call again
+    pub waits : q.waits pid ≡ Stays Blocks
+    -- it has no notes that would end its wait
+    pub none : has_notes (q.notes pid) ≡ false
+    -- and the call would find nothing
+    pub unanswered : is_answered program at line.call ≡ false
+
+  -- one of these each process is
+  pub data HowStopped (pid : ℕ) : Type 0 where
+    IsOver : HasEndedAt pid → HowStopped pid
+    IsInLine : WaitsAt pid → HowStopped pid
+    IsBlocked : BlocksAt pid → HowStopped pid
+
+  -- a number of a process is one of a mover that goes on
+  below : (pid : ℕ) → pid < procs_of program → nat_lt pid (procs_of program) ≡ true
+  below pid low = grind (arith, nat_tests)
+
+  -- nobody's write is to stand: it could
+  pub none_wrote : (pid : ℕ) → pid < procs_of program → (line : Line)
+      → slice_get program.lines (q.place pid) ≡ Some line → q.waits pid ≡ Stays Wrote → ⊥
+  none_wrote pid low line is wrote =
+      not_ready pid (omega arith)
+      (rw (
+        shows.is_open,
+        below pid low,
+        shows.processes.each pid low,
+        is,
+        wrote,
+      ) refl)
+
+  -- So is each process.
+  pub each_stopped : (pid : ℕ) → pid < procs_of program → HowStopped pid
+  each_stopped pid low = by_line (slice_get program.lines (q.place pid)) refl
     where
       by_line : (found : Option Line) → slice_get program.lines (q.place pid) ≡ found
-          → HasEndedAt pid ⊎ WaitsAt pid
-      by_line None is = inl (record { none = is })
+          → HowStopped pid
+      by_line None is = IsOver (record { none = is })
       by_line (Some line) is = by_wait (q.waits pid) refl
         where
-          by_wait : (waits : Halt) → q.waits pid ≡ waits → HasEndedAt pid ⊎ WaitsAt pid
+          by_wait : (waits : Halt) → q.waits pid ≡ waits → HowStopped pid
           by_wait Free none =
               absurd (not_ready pid (omega arith)
               (begins_ready program q at shows pid line
               (record { low = low; line_is = is; waits = none })
-              (never_early at.processes line.call (shown (q.place pid) line is))))
-          by_wait (Stays amid) stays = absurd (none_amid pid low amid stays)
+              (never_early program at.processes line.call (shown (q.place pid) line is))))
+          by_wait (Stays Wrote) wrote = absurd (none_wrote pid low line is wrote)
+          by_wait (Stays (ReadsOn room)) reads =
+              absurd (not_ready pid (omega arith)
+              (rw (
+                shows.is_open,
+                below pid low,
+                shows.processes.each pid low,
+                is,
+                reads,
+              ) refl))
+          by_wait (Stays Blocks) blocks =
+              by_both (is_answered program at line.call) refl (has_notes (q.notes pid)) refl
+            where
+              other_is : procs_of program + pid - procs_of program ≡ pid
+              other_is = omega arith
+
+              past_all : nat_lt (procs_of program + pid) (procs_of program) ≡ false
+              past_all = grind (arith, nat_tests)
+
+              by_both : (answered : Bool) → is_answered program at line.call ≡ answered
+                  → (noted : Bool) → has_notes (q.notes pid) ≡ noted → HowStopped pid
+              by_both true answered noted is_noted =
+                  absurd (not_ready pid (omega arith)
+                  (rw (
+                    shows.is_open,
+                    below pid low,
+                    shows.processes.each pid low,
+                    is,
+                    blocks,
+                    answered,
+                  ) refl))
+              by_both false answered true is_noted =
+                  absurd (not_ready (procs_of program + pid) (omega arith)
+                  (rw (
+                    shows.is_open,
+                    past_all,
+                    other_is,
+                    below pid low,
+                    shows.processes.each pid low,
+                    is,
+                    blocks,
+                    is_noted,
+                  ) refl))
+              by_both false answered false is_noted =
+                  IsBlocked (record {
+                    line = line;
+                    line_is = is;
+                    waits = blocks;
+                    none = is_noted;
+                    unanswered = answered;
+                  })
           by_wait (For what) some = by_notes (has_notes (q.notes pid)) refl
             where
-              by_notes : (noted : Bool) → has_notes (q.notes pid) ≡ noted
-                  → HasEndedAt pid ⊎ WaitsAt pid
+              by_notes : (noted : Bool) → has_notes (q.notes pid) ≡ noted → HowStopped pid
               by_notes true noted =
                   absurd (not_ready (procs_of program + pid) (omega arith)
                   (waits_ready program q at shows pid line what
                   (record { low = low; line_is = is; waits = some }) noted))
               by_notes false noted =
-                  inr (record {
+                  IsInLine (record {
                     line = line;
                     what = what;
                     line_is = is;
@@ -195,12 +279,10 @@ module _ (program : Program) (shown : AreShownCalls program) (q : Queued) (at : 
     pub low : pid < procs_of program
     -- the line in whose call it waits
     pub line : Line
-    -- the line of processes in which it stands
-    pub what : Want
     -- its place has that line in the program
     pub line_is : slice_get program.lines (q.place pid) ≡ Some line
-    -- it waits for that, and has not been served
-    pub waits : q.waits pid ≡ For what
+    -- it has made its call
+    pub waits : q.waits pid ≢ Free
     -- that line is not the head of a loop
     pub not_served : line.is_served ≡ false
 
@@ -208,8 +290,8 @@ module _ (program : Program) (shown : AreShownCalls program) (q : Queued) (at : 
   moves_are mover = ap (λ (c : Course). by_course c (moves program at mover)) (sym shows.is_open)
 
   -- One of them starves, since the machine is stuck.
-  pub one_starves : NoneStays program q → Starves
-  one_starves none_amid =
+  pub one_starves : Starves
+  one_starves =
       by_found (some_found (λ mover. not (has_ended (status_of program at mover)))
       (procs_of program + procs_of program + 1) parts.0)
     where
@@ -236,7 +318,7 @@ module _ (program : Program) (shown : AreShownCalls program) (q : Queued) (at : 
               let unended : has_ended (moves program at found.n) ≡ false =
               ap has_ended (moves_are found.n) ∙ not_ended in
               cc)
-          by_first true is = by_kind (each_stopped none_amid found.n low)
+          by_first true is = by_kind (each_stopped found.n low)
             where
               low : found.n < procs_of program
               low = grind (arith, nat_tests)
@@ -247,23 +329,36 @@ module _ (program : Program) (shown : AreShownCalls program) (q : Queued) (at : 
                   ap (status_of_one program at) (sym (shows.processes.each found.n low))
                   ∙ (sym (rw is refl) ∙ moves_are found.n)
 
-              by_kind : HasEndedAt found.n ⊎ WaitsAt found.n → Starves
-              by_kind (inl ended) =
+              by_kind : HowStopped found.n → Starves
+              by_kind (IsOver ended) =
                   let none = ended.none in
                   absurd (let yes_ended : has_ended (status_of program at found.n) ≡ true =
                   ap has_ended (sym status_is) ∙ rw none refl in
                   let no_ended = not_ended in
                   cc)
-              by_kind (inr waits) =
+              by_kind (IsInLine waits) =
                   let line_is = waits.line_is in
                   let some = waits.waits in
                   record {
                     pid = found.n;
                     low = low;
                     line = waits.line;
-                    what = waits.what;
                     line_is = waits.line_is;
-                    waits = waits.waits;
+                    waits = λ free. let both : Free ≡ For waits.what = sym free ∙ waits.waits in cc;
                     not_served = served_or waits.line.is_served
                         (sym (rw (line_is, some) refl) ∙ (ap has_ended status_is ∙ not_ended));
+                  }
+              by_kind (IsBlocked blocks) =
+                  let line_is = blocks.line_is in
+                  let some = blocks.waits in
+                  let no_answer = blocks.unanswered in
+                  record {
+                    pid = found.n;
+                    low = low;
+                    line = blocks.line;
+                    line_is = blocks.line_is;
+                    waits = λ free. let both : Free ≡ Stays Blocks = sym free ∙ blocks.waits in cc;
+                    not_served = served_or blocks.line.is_served
+                        (sym (rw (line_is, some, no_answer) refl)
+                        ∙ (ap has_ended status_is ∙ not_ended));
                   }

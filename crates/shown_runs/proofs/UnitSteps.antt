@@ -100,6 +100,7 @@ module _ (program : Program) (given : Spot → Given) (objects : Objects)
         values = λ other apart. get_or-set_other q.values sema other _ 0 apart;
         lines = λ other apart. refl;
         partners = λ tag. refl;
+        pipes = refl;
       })
 
   -- a call that leaves the semaphore as it was
@@ -130,6 +131,7 @@ module _ (program : Program) (given : Spot → Given) (objects : Objects)
         values = λ other apart. refl;
         lines = λ other apart. refl;
         partners = λ tag. refl;
+        pipes = refl;
       })
 
   -- a semacquire that has its unit

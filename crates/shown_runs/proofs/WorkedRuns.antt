@@ -1,11 +1,12 @@
 -- Schedules of the explorer's machine and the runs that make them, computed: what each row of the
 -- definitions says.
-use Rattle.std.proofs.Common.{◌≡◌, ◌<◌, inr, ℕ, zero, suc, Bool, true, false, Some}
+use Rattle.std.proofs.Common.{◌≡◌, ◌<◌, inl, inr, ℕ, zero, suc, Bool, true, false, Some, Ok}
 use Rattle.std.proofs.Common.{None, List, [], ◌∷◌, ap, refl, arith}
 use Rattle.std.specs.List.{AllByRecursion}
 use Rattle.kernel_lock.specs.declared.locked.Locked.{Locked}
 use Rattle.kernel_lock.specs.Seats.{limit_of, opening_of}
-use Rattle.sync_base.specs.declared.mode.Mode.TheVariants.{Message}
+use Rattle.sync_base.specs.declared.mode.Mode.{Mode}
+use Rattle.sync_base.specs.declared.mode.Mode.TheVariants.{Message, Stream}
 use Rattle.sync_base.specs.declared.note.Note.TheVariants.{Interrupt}
 use Rattle.sync_base.specs.declared.note.NoteSet.{NoteSet}
 use Rattle.sync_base.specs.NoteSet.{no_notes, only}
@@ -20,6 +21,7 @@ use Rattle.tag_space.specs.declared.calls.GroupReply.{GroupReply}
 use Rattle.tag_space.specs.declared.place.Place.{Place}
 use Rattle.tag_space.specs.declared.space.TagSpace.{TagSpace}
 use Rattle.tag_space.specs.GroupObject as object
+use Rattle.waiting.specs.declared.call.Reply.TheVariants as reply
 use Rattle.calls.specs.declared.call.Call.{Call}
 use Rattle.calls.specs.declared.call.Call.TheVariants as call
 use Rattle.calls.specs.declared.course.Course.TheVariants as course
@@ -34,12 +36,14 @@ use Rattle.call_machines.specs.Ends.{HasStopped}
 use Rattle.call_machines.specs.Runs.{IsOfCalls, procs}
 use Rattle.call_machines.specs.Schedules.{run_of}
 use Rattle.call_machines.proofs.ScheduleLemmas.{schedules_are_runs}
+use Rattle.pipe_machines.specs.PipeRuns.CallState.{Reads}
+use Rattle.pipe_machines.specs.ReadMachine.{FillState}
+use Rattle.pipe_machines.specs.Tries.TryState.{Tries}
 use Rattle.object_machines.specs.ObjectCalls.{Objects}
 use Rattle.explored_calls.specs.LibraryCalls.{Given, Spot, library_of}
-use Rattle.shown_runs.specs.ShownRuns.{SleepsForPartner}
-use Rattle.shown_runs.specs.ShownRuns.{AreFewSteps, ComesToNever, IsAsShown}
-use Rattle.shown_runs.specs.ShownRuns.{IsAtPlace, IsShownCall, LibraryStep, SleepsFor}
-use Rattle.shown_runs.specs.ShownRuns.{shown_at, with_choices}
+use Rattle.shown_runs.specs.ShownRuns.{AreFewSteps, ComesToNever, HasPut, IsAsShown, IsAtPlace}
+use Rattle.shown_runs.specs.ShownRuns.{IsShownCall, LibraryStep, SleepsAtPipe, SleepsFor}
+use Rattle.shown_runs.specs.ShownRuns.{SleepsForPartner, WaitsAtPipe, shown_at, with_choices}
 
 -- ---- programs
 
@@ -89,8 +93,40 @@ abbrev forked : Program
 forked =
     program_of (line_to call.Choose 9 1 ∷ line_to call.Never 9 9 ∷ []) (0 ∷ 9 ∷ [])
 
+-- the same lines, with a direction of a pipe for one write, read so
+abbrev piped_of : Mode → List Line → List ℕ → Program
+piped_of mode lines starts =
+    record {
+      lines = lines;
+      starts = starts;
+      values = 0 ∷ [];
+      pipes = record { limit = 1; mode = mode } ∷ [];
+      rendez = 0;
+    }
+
+-- a read with room for two bytes, which goes elsewhere at the end
+abbrev read_line : Line
+read_line = record (line_to (call.Read 0 2 None) 9 8) { closed = 7 }
+
+-- the first reads, and the second writes one byte
+abbrev sends : Program
+sends = piped_of Message (read_line ∷ line_to (call.Write 0 1 None) 9 8 ∷ []) (0 ∷ 1 ∷ [])
+
+-- the first reads, and the second hangs up
+abbrev hangs : Program
+hangs = piped_of Message (read_line ∷ line_to (call.Hangup 0) 9 8 ∷ []) (0 ∷ 1 ∷ [])
+
+-- the first reads, and nobody writes
+abbrev reads : Program
+reads = piped_of Message (read_line ∷ []) (0 ∷ 9 ∷ [])
+
+-- the same of a stream
+abbrev streams : Program
+streams = piped_of Stream (read_line ∷ []) (0 ∷ 9 ∷ [])
+
+-- a process hangs up by the seat of the first writer
 abbrev given : Spot → Given
-given spot = record { value = 0; writer = 0; seat = 0 }
+given spot = record { value = 0; writer = 0; seat = 1 }
 
 -- a process that has not made its call
 abbrev stands_at : ℕ → Process
@@ -109,6 +145,28 @@ waits_at place before =
     record {
       place = place;
       standing = standing.Waits (want.Unit 0) before;
+      timer = timer.Unset;
+      notes = no_notes;
+      is_marked = false;
+    }
+
+-- or waits to make its call again
+abbrev blocked : ℕ → Process
+blocked place =
+    record {
+      place = place;
+      standing = standing.Blocked;
+      timer = timer.Unset;
+      notes = no_notes;
+      is_marked = false;
+    }
+
+-- or its write is to stand
+abbrev accepted : ℕ → Process
+accepted place =
+    record {
+      place = place;
+      standing = standing.Accepted;
       timer = timer.Unset;
       notes = no_notes;
       is_marked = false;
@@ -137,14 +195,46 @@ it_reaches = refl
 
 -- ---- which calls
 
-with_a_deadline : IsShownCall (call.Acquire 0 (Some 5)) ≡ ⊥
+with_a_deadline : IsShownCall two (call.Acquire 0 (Some 5)) ≡ ⊥
 with_a_deadline = refl
 
-a_late_rendezvous : IsShownCall (call.Rendezvous 7 (Some 5)) ≡ ⊥
+a_late_rendezvous : IsShownCall two (call.Rendezvous 7 (Some 5)) ≡ ⊥
 a_late_rendezvous = refl
 
-few : AreFewSteps (1 ∷ 0 ∷ [])
-few = omega arith
+a_late_read : IsShownCall sends (call.Read 0 1 (Some 5)) ≡ ⊥
+a_late_read = refl
+
+a_late_write : IsShownCall sends (call.Write 0 1 (Some 5)) ≡ ⊥
+a_late_write = refl
+
+a_message : IsShownCall sends (call.Read 0 1 None)
+a_message = refl
+
+of_a_stream : IsShownCall streams (call.Read 0 1 None) → ⊥
+of_a_stream is = cc
+
+nor_tried : IsShownCall streams (call.TryRead 0 1) → ⊥
+nor_tried is = cc
+
+few : AreFewSteps two (1 ∷ 0 ∷ [])
+few = record { grants = omega arith; writes = λ some. omega arith }
+
+-- ---- what ends a wait at a direction
+
+it_blocks : (shown_at sends (0 ∷ [])).processes ≡ blocked 0 ∷ stands_at 1 ∷ []
+it_blocks = refl
+
+it_has_put : (shown_at sends (1 ∷ 0 ∷ [])).processes ≡ blocked 0 ∷ accepted 1 ∷ []
+it_has_put = refl
+
+it_reads : (shown_at sends (0 ∷ 1 ∷ 1 ∷ 0 ∷ [])).processes ≡ stands_at 9 ∷ stands_at 9 ∷ []
+it_reads = refl
+
+it_finds_the_end : (shown_at hangs (0 ∷ 1 ∷ 0 ∷ [])).processes ≡ stands_at 7 ∷ stands_at 9 ∷ []
+it_finds_the_end = refl
+
+it_reads_for_ever : is_stuck (system_of reads) (shown_at reads (0 ∷ [])) ≡ true
+it_reads_for_ever = refl
 
 -- ---- the same of the library
 
@@ -339,3 +429,101 @@ module _ (lock : Locked SemaState SemaCall SemaReply)
   elsewhere : IsAtPlace forked given (with_choices objects (true ∷ []))
       (run forked (true ∷ []) (0 ∷ [])) 0 9
   elsewhere = record { at = refl; idle = refl }
+
+  -- ---- a direction of a pipe
+
+  -- with the Rendez 4 of its reader and 5 of its writer
+  abbrev piped : Objects
+  piped =
+      record objects {
+        pipes = record {
+          limit = 1;
+          row = record { first = 4; writers = 1; mode = Message; small = omega arith };
+          holders = record { reader = 0; writers = 1 ∷ [] };
+        } ∷ [];
+        choices = [];
+        rendez = 6;
+      }
+
+  -- the run that a schedule of the processes plays there
+  abbrev there_run : Program → List ℕ → List LibraryStep
+  there_run program movers = run_of (library_of program given piped) movers
+
+  -- the reader asks, posts itself and tests the level: then it sleeps
+  reader_sleeps : SleepsAtPipe sends given piped (there_run sends (0 ∷ 0 ∷ 0 ∷ [])) 0 0
+  reader_sleeps =
+      record {
+        pipe = 0;
+        number = 0;
+        rendez = record { 0 = 4 };
+        made = Reads (0 ∷ 0 ∷ []) (Tries (FillState.Told (Ok (reply.Wait 0))));
+        at = refl;
+        sleeps = refl;
+        asleep = refl;
+        posted = refl;
+        below = omega arith;
+        unmarked = refl;
+      }
+
+  -- so it stands as the explorer's process that waits; and so it does where it has not asked
+  is_blocked : IsAsShown sends given piped (there_run sends (0 ∷ 0 ∷ 0 ∷ [])) 0 (blocked 0)
+  is_blocked = record { stands = inr reader_sleeps; notes = refl }
+
+  not_asked : IsAsShown sends given piped (there_run sends []) 0 (blocked 0)
+  not_asked = record { stands = inl (record { at = refl; idle = refl }); notes = refl }
+
+  -- but not where it is about to sleep
+  about_to_sleep : WaitsAtPipe sends given piped (there_run sends (0 ∷ [])) 0 0 → ⊥
+  about_to_sleep (inl here) = let at = here.at in cc
+  about_to_sleep (inr sleeps) = let asleep = sleeps.asleep in cc
+
+  -- nor where it was marked
+  woken : WaitsAtPipe sends given piped
+      (there_run sends (1 ∷ 1 ∷ 1 ∷ 1 ∷ 1 ∷ 0 ∷ 0 ∷ 0 ∷ [])) 0 0 → ⊥
+  woken (inl here) = let at = here.at in cc
+  woken (inr sleeps) = let unmarked = sleeps.unmarked in cc
+
+  -- the write is put with the number 1, and is to stand
+  its_put : HasPut sends given piped (there_run sends (1 ∷ [])) 1 1
+  its_put =
+      record { pipe = 0; writer = 0; bytes = 0 ∷ []; number = 1; at = refl; awake = refl }
+
+  is_accepted : IsAsShown sends given piped (there_run sends (1 ∷ [])) 1 (accepted 1)
+  is_accepted = record { stands = its_put; notes = refl }
+
+  -- it stands no more when the reader is to be woken
+  stood_already : HasPut sends given piped (there_run sends (1 ∷ 1 ∷ [])) 1 1 → ⊥
+  stood_already has = let at = has.at in cc
+
+  -- A write and a read: the write is put, stands and wakes nobody; the read takes it, and wakes
+  -- nobody.
+  abbrev sent : List ℕ
+  sent = 0 ∷ 0 ∷ 0 ∷ 1 ∷ 1 ∷ 1 ∷ 1 ∷ []
+
+  reader_is_there : IsAsShown sends given piped (there_run sends sent) 0 (stands_at 9)
+  reader_is_there = record { stands = record { at = refl; idle = refl }; notes = refl }
+
+  writer_is_there : IsAsShown sends given piped (there_run sends sent) 1 (stands_at 9)
+  writer_is_there = record { stands = record { at = refl; idle = refl }; notes = refl }
+
+  -- The same of a reader that slept: it is marked, looks, clears its mark and asks again.
+  abbrev sent_to_sleeper : List ℕ
+  sent_to_sleeper =
+      0 ∷ 0 ∷ 0 ∷ 0 ∷ 0 ∷ 1 ∷ 1 ∷ 1 ∷ 1 ∷ 1 ∷ 0 ∷ 0 ∷ 0 ∷ []
+
+  sleeper_is_there : IsAsShown sends given piped (there_run sends sent_to_sleeper) 0 (stands_at 9)
+  sleeper_is_there = record { stands = record { at = refl; idle = refl }; notes = refl }
+
+  -- A hangup ends a read: it wakes the reader and the writer, and the reader finds the end.
+  abbrev hung_up : List ℕ
+  hung_up = 0 ∷ 0 ∷ 0 ∷ 1 ∷ 1 ∷ 1 ∷ 1 ∷ 1 ∷ 1 ∷ 0 ∷ 0 ∷ 0 ∷ []
+
+  finds_the_end : IsAsShown hangs given piped (there_run hangs hung_up) 0 (stands_at 7)
+  finds_the_end = record { stands = record { at = refl; idle = refl }; notes = refl }
+
+  -- Where nobody writes the reader is parked.
+  reads_for_ever : HasStopped (library_of reads given piped) (there_run reads (0 ∷ 0 ∷ 0 ∷ []))
+  reads_for_ever zero low = inr (Look (record { 0 = 0 }), refl, refl)
+  reads_for_ever (suc zero) low = inl tt
+  reads_for_ever (suc (suc pid)) low =
+      absurd (let less : suc (suc pid) < 2 = low in omega arith)

@@ -29,7 +29,8 @@ use Rattle.sleep_core.specs.Table.Word.{Flags, Number}
 use Rattle.sleep_core.proofs.EventTableLemmas.{clear_out_interrupted, clear_woken_cleared}
 use Rattle.sleep_core.proofs.EventTableLemmas.{clear_woken_interrupted, drain_notes, look_leaving}
 use Rattle.sleep_core.proofs.EventTableLemmas.{look_woken, mark_marked, note_noted, post_posted}
-use Rattle.sleep_core.proofs.EventTableLemmas.{raise_owing, take_holding, test_asleep}
+use Rattle.sleep_core.proofs.EventTableLemmas.{raise_owing, take_holding, take_nobody, test_asleep}
+use Rattle.sleep_core.proofs.EventTableLemmas.{test_leaving}
 use Rattle.sleep_core.proofs.EventTableLemmas.{withdraw_out}
 use Rattle.sleep_core.proofs.Frames.{same_or_not}
 use Rattle.sleep_core.proofs.LocalityLemmas.{phase_of-world_after_other, word_at-world_told}
@@ -290,6 +291,38 @@ module _ (a b : Pid) (r : RendezId) (s : State) (row : IsRow r.0 s) (flags : Pro
         told_is = told.answered;
         leaves = by_posted a.0 b.0 r.0 s _ _ _ _ _ reads.flags_is reads.level_is
             (left_by s (Take a) (phase.Owing r to) _ _ _ reads.phase_is told);
+      }
+
+  -- a take that finds nobody
+  pub takes_nobody : (to : ℕ) → Reads a.0 b.0 r.0 s (phase.Owing r to) flags nobody level
+      → Told a.0 b.0 r.0 s (Take a) answer.Nobody phase.Idle flags nobody level
+  takes_nobody to reads =
+      let told = take_nobody s a r to (record {
+        exists = reads.there;
+        in_phase = reads.phase_is;
+        has_word = row.posted_there;
+        is_word = ap Number reads.posted_is;
+      }) in
+      record {
+        told_is = told.answered;
+        leaves = by_posted a.0 b.0 r.0 s _ _ _ _ _ reads.flags_is reads.level_is
+            (left_by s (Take a) (phase.Owing r to) _ _ _ reads.phase_is told);
+      }
+
+  -- a test that finds a level above its number
+  pub tests_above : (n : ℕ) → Reads a.0 b.0 r.0 s (phase.Posted r n) flags word level → n < level
+      → Told a.0 b.0 r.0 s (Test a) answer.Leaving (phase.Leaving r) flags word level
+  tests_above n reads above =
+      let told = test_leaving s a r n level above (record {
+        exists = reads.there;
+        in_phase = reads.phase_is;
+        has_word = row.level_there;
+        is_word = ap Number reads.level_is;
+      }) in
+      record {
+        told_is = told.answered;
+        leaves = by_level a.0 b.0 r.0 s _ _ _ _ _ reads.flags_is reads.posted_is
+            (left_by s (Test a) (phase.Posted r n) _ _ _ reads.phase_is told);
       }
 
   -- its mark is set in the flags of who was taken

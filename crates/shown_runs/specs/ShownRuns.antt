@@ -1,9 +1,10 @@
 -- That a schedule which the explorer shows is a run of the library's calls. After Lynch and
 -- Vaandrager, "Forward and backward simulations" (1995): each step of the explorer's machine is
 -- made by acts of the calls, one after another.
-use Rattle.std.specs.Prelude.{◌≡◌, ◌≢◌, ◌≤◌, ◌<◌, ⊤, ℕ, Bool, true, false, Some, None, List}
+use Rattle.std.specs.Prelude.{◌≡◌, ◌≢◌, ◌≤◌, ◌<◌, ◌⊎◌, ⊤, ℕ, Bool, true, false, Some, None, List}
 use Rattle.std.specs.Prelude.{length, slice_get}
 use Rattle.sync_base.specs.declared.ids.RendezId.{RendezId}
+use Rattle.sync_base.specs.declared.limits.TheConstants.{LAST_WRITE}
 use Rattle.sleep_core.specs.declared.phase.Phase.TheVariants as phase
 use Rattle.sleep_core.specs.State.{flags_of, level_of, posted_as, posted_of}
 use Rattle.searches.specs.Schedule.{ComesToStuck, IsSchedule, position_of}
@@ -22,45 +23,57 @@ use Rattle.calls.specs.declared.process.Standing.TheVariants as standing
 use Rattle.calls.specs.declared.process.Want.TheVariants as want
 use Rattle.calls.specs.Machine.{system_of}
 use Rattle.calls.specs.Position.{Position}
-use Rattle.calls.specs.Program.{IsProgram, Program}
+use Rattle.calls.specs.Program.{IsProgram, Program, is_stream_at}
 use Rattle.call_machines.specs.Ends.{HasStopped}
+use Rattle.call_machines.specs.Machine.{Next}
 use Rattle.call_machines.specs.Programs as machines
 use Rattle.call_machines.specs.Programs.{ProgramState, rests_at}
 use Rattle.call_machines.specs.Programs.ProgramState.{In}
 use Rattle.call_machines.specs.Replies.{AreAskedSo, SuchStopAtRest}
 use Rattle.call_machines.specs.Runs.{IsOfCalls, Step, own_in, procs, world_at}
 use Rattle.call_machines.specs.WaitTables.WaitState.{Waits}
+use Rattle.pipe_machines.specs.PipeRuns.{CallState}
+use Rattle.pipe_machines.specs.PipeRuns.CallState.{Writes}
+use Rattle.pipe_machines.specs.Tries.TryState.{Tries}
+use Rattle.pipe_machines.specs.WriteMachine.{PutState}
 use Rattle.sema_machines.specs.SemaRuns.CallState.{Takes}
 use Rattle.space_machines.specs.MeetMachine.MeetState.{Calls}
 use Rattle.object_machines.specs.ObjectCalls.{ObjectCall, ObjectReply, ObjectRequest}
-use Rattle.object_machines.specs.ObjectCalls.{Objects, object_calls, sema_of}
-use Rattle.object_machines.specs.ObjectCalls.ObjectCall.{AtSema, InSpace}
+use Rattle.object_machines.specs.ObjectCalls.{Objects, object_calls, object_does, sema_of}
+use Rattle.object_machines.specs.ObjectCalls.ObjectCall.{AtPipe, AtSema, InSpace}
 use Rattle.object_machines.specs.ObjectEnds.{LeavesUnworn}
-use Rattle.explored_calls.specs.LibraryCalls.{AreItsObjects, Given, Spot, is_at_head, library_of}
+use Rattle.explored_calls.specs.LibraryCalls.{AreItsObjects, Given, HaveEnds, Spot, is_at_head}
+use Rattle.explored_calls.specs.LibraryCalls.{library_of}
 use Rattle.explored_calls.specs.LibraryCalls.{library_program, spot_at}
 
 -- ---- which programs
 
--- Left out by name: calls with a deadline, calls of pipes, and sleeps and wakeups.
-abbrev pub IsShownCall : Call → Type 0
-IsShownCall (call.Acquire sema None) = ⊤
-IsShownCall (call.Try sema) = ⊤
-IsShownCall (call.Release sema count) = ⊤
-IsShownCall (call.Rendezvous tag None) = ⊤
-IsShownCall (call.Note pid notes) = ⊤
-IsShownCall call.Drain = ⊤
-IsShownCall call.Choose = ⊤
-IsShownCall call.Never = ⊤
-IsShownCall other = ⊥
+-- Left out by name: calls with a deadline, reads of a stream, ticks, and sleeps and wakeups.
+abbrev pub IsShownCall : Program → Call → Type 0
+IsShownCall program (call.Acquire sema None) = ⊤
+IsShownCall program (call.Try sema) = ⊤
+IsShownCall program (call.Release sema count) = ⊤
+IsShownCall program (call.Rendezvous tag None) = ⊤
+IsShownCall program (call.Read pipe room None) = is_stream_at program pipe ≡ false
+IsShownCall program (call.TryRead pipe room) = is_stream_at program pipe ≡ false
+IsShownCall program (call.Write pipe bytes None) = ⊤
+IsShownCall program (call.Hangup pipe) = ⊤
+IsShownCall program (call.Note pid notes) = ⊤
+IsShownCall program call.Drain = ⊤
+IsShownCall program call.Choose = ⊤
+IsShownCall program call.Never = ⊤
+IsShownCall program other = ⊥
 
 abbrev pub AreShownCalls : Program → Type 0
 AreShownCalls program =
-    (place : ℕ) (line : Line) → slice_get program.lines place ≡ Some line → IsShownCall line.call
+    (place : ℕ) (line : Line) → slice_get program.lines place ≡ Some line
+    → IsShownCall program line.call
 
--- A step grants a seat one unit at most, and meets a member once, so in so few steps the grants of
--- no seat and the meetings of no member are worn out.
-abbrev pub AreFewSteps : List ℕ → Type 0
-AreFewSteps movers = length movers ≤ LAST_GRANT
+-- A step grants a seat one unit at most, meets a member once, and puts one write. So in so few
+-- steps the grants of no seat, the meetings of no member and the numbers of no writes are worn out.
+pub record AreFewSteps (program : Program) (movers : List ℕ) : Type 0 where
+  pub grants : length movers ≤ LAST_GRANT
+  pub writes : 0 < length program.pipes → length movers < LAST_WRITE
 
 -- ---- where a run of the calls leaves a process
 
@@ -128,12 +141,47 @@ module _ (program : Program) (given : Spot → Given) (objects : Objects) where
           (rendez_of_member objects.space pid).0 ≤ number
       pub unmarked : (flags_of (world_at (library_of program given objects) run) pid).wake ≡ false
 
+    -- It sleeps in the read or the write of this place, in the same way: in the reader's Rendez or
+    -- in that of its writer.
+    pub record SleepsAtPipe (pid place : ℕ) : Type 0 where
+      pub pipe : ℕ
+      pub number : ℕ
+      pub rendez : RendezId
+      pub made : CallState
+      pub at : (own_in (library_of program given objects) pid run).at
+          ≡ In (spot_of pid place) (AtPipe pipe made)
+      pub sleeps : object_does objects (AtPipe pipe made) ≡ Next.Sleep rendez number
+      pub asleep : (own_in (library_of program given objects) pid run).stage
+          ≡ phase.Asleep rendez number
+      pub posted : posted_of (world_at (library_of program given objects) run) rendez.0
+          ≡ posted_as pid
+      pub below : level_of (world_at (library_of program given objects) run) rendez.0 ≤ number
+      pub unmarked : (flags_of (world_at (library_of program given objects) run) pid).wake ≡ false
+
+    -- The explorer makes a read or a write again that waits. So such a process is about to make the
+    -- call of this place, for the first time or again, or sleeps in it.
+    abbrev pub WaitsAtPipe : ℕ → ℕ → Type 0
+    WaitsAtPipe pid place = IsAtPlace pid place ⊎ SleepsAtPipe pid place
+
+    -- its write was accepted with this number, and is to stand
+    pub record HasPut (pid place : ℕ) : Type 0 where
+      pub pipe : ℕ
+      pub writer : ℕ
+      pub bytes : List ℕ
+      pub number : ℕ
+      pub at : (own_in (library_of program given objects) pid run).at
+          ≡ In (spot_of pid place)
+          (AtPipe pipe (Writes writer bytes (Tries (PutState.Standing number))))
+      pub awake : (own_in (library_of program given objects) pid run).stage ≡ phase.Idle
+
     -- by how a process of the explorer's machine stands
     abbrev pub StandsSo : ℕ → ℕ → Standing → Type 0
     StandsSo pid place standing.Begins = IsAtPlace pid place
     StandsSo pid place (standing.Waits (want.Unit sema) before) = SleepsFor pid place sema
     StandsSo pid place (standing.Waits (want.Partner tag) before) =
         SleepsForPartner pid place tag
+    StandsSo pid place standing.Blocked = WaitsAtPipe pid place
+    StandsSo pid place standing.Accepted = HasPut pid place
     StandsSo pid place other = ⊥
 
     -- the process is where the explorer's machine has it, with the same notes
@@ -185,12 +233,14 @@ module _ (program : Program) (given : Spot → Given) (objects : Objects) where
     pub never : line.call ≡ call.Never
     pub there : IsAtPlace program given (with_choices objects choices) run pid place
 
--- what is shown of each schedule of the explorer's machine, whatever values are given in rendezvous
+-- what is shown of each schedule of the explorer's machine, whatever values are given in
+-- rendezvous, where each process has the ends by which it calls
 abbrev pub OfEachSchedule : (Program → (Spot → Given) → Objects → List ℕ → Type 0) → Type 0
 OfEachSchedule Shown =
     (program : Program) (given : Spot → Given) (objects : Objects) (movers : List ℕ)
     → IsProgram program → AreShownCalls program → AreItsObjects program objects
-    → IsSchedule (system_of program) movers → AreFewSteps movers
+    → HaveEnds program given objects
+    → IsSchedule (system_of program) movers → AreFewSteps program movers
     → Shown program given objects movers
 
 -- where a schedule comes to

@@ -9,9 +9,9 @@ ghost use Rattle.shown_runs.specs.ShownRuns.{
 
 /// Each schedule of the explorer's machine is made by a run of the library's calls, for some list
 /// of choices: at its end each process has ended, or is about to make its call, or sleeps in it,
-/// just as the position has it. Covered are schedules that do not end the program, of so few steps
-/// that no grants and no meetings are worn out; and semaphores, rendezvous, notes, drains, choices
-/// and loops.
+/// or its write is to stand, just as the position has it. Covered are schedules that do not end the
+/// program, of so few steps that no grants, no meetings and no numbers of writes are worn out; and
+/// semaphores, rendezvous, messages of pipes, notes, drains, choices and loops.
 pub fn schedules_are_runs()
     ensures { ShownAreRuns }
 {}

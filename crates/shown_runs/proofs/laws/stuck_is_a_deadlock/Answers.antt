@@ -4,5 +4,5 @@ use Rattle.shown_runs.proofs.laws.stuck_is_a_deadlock.Goals as goal
 
 pub returns : goal.returns
 returns c =
-    λ program given objects movers is_program shown are schedule few is_open stuck.
-    stuck_deadlocks program given objects are is_program shown movers few is_open stuck
+    λ program given objects movers is_program shown are have schedule few is_open stuck.
+    stuck_deadlocks program given objects are is_program shown have movers few is_open stuck
