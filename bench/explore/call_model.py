@@ -1,5 +1,5 @@
 #!/usr/bin/env python3
-"""Writes a program as a Promela model for SPIN at the grain of calls, as p9explore --calls plays it.
+"""Writes a program of calls at semaphores and pipes as a Promela model for SPIN, as p9explore plays it.
 
 usage: call_model.py <SCRIPT >MODEL
 
@@ -12,9 +12,56 @@ step more. So a model has the states that p9explore has, but for schedules that 
 It takes scripts with semaphores, notes of one kind, and pipes in message mode whose reads take whole writes. Of another one it says what it
 does not take, and the status is 2."""
 import sys
+from typing import NamedTuple
 
-from model import Digits
 from script import Script, refuse
+
+
+class Digits(NamedTuple):
+    """A list of numbers from 1 to `base`, kept as the digits of a variable."""
+    name: str
+    base: int
+    most: int
+
+    @property
+    def width(self):
+        return self.base.bit_length()
+
+    @property
+    def first(self):
+        return self.name if self.most < 2 else f"({self.name} & {(1 << self.width) - 1})"
+
+    def without_first(self):
+        return f"{self.name} = " + ("0" if self.most < 2 else f"{self.name} >> {self.width}")
+
+    def has(self, number):
+        """Whether the number is among them; or "false"."""
+        mask = (1 << self.width) - 1
+        digits = [self.first, *(f"({self.name} >> {at * self.width} & {mask})" for at in range(1, self.most))][:self.most]
+        return " || ".join(f"{digit} == {number}" for digit in digits) or "false"
+
+    def with_last(self, number):
+        """With the number after the others."""
+        if self.most < 2:
+            return f"{self.name} = {number}"
+        text = f"{self.name} | {number << (self.most - 1) * self.width}"
+        for at in reversed(range(self.most - 1)):
+            text = f"({self.name} < {1 << at * self.width} -> {self.name} | {number << at * self.width} : {text})"
+        return f"{self.name} = {text}"
+
+    def with_new(self, number):
+        """The same, if it is not among them."""
+        name, _, text = self.with_last(number).partition(" = ")
+        return f"{name} = ({self.has(number)} -> {name} : {text})"
+
+    def without(self, number):
+        """With the number left out, if it is among them."""
+        text, mask = self.name, (1 << self.width) - 1
+        for at in reversed(range(self.most)):
+            low, high = (1 << at * self.width) - 1, (at + 1) * self.width
+            text = (f"(({self.name} >> {at * self.width} & {mask}) == {number} -> "
+                    f"{self.name} & {low} | {self.name} >> {high} << {at * self.width} : {text})")
+        return f"{self.name} = {text}"
 
 
 class CallModel:

@@ -1,4 +1,4 @@
-"""A script of p9explore as model.py reads it, and what its lines tell of the numbers of a state."""
+"""A script of p9explore as model.py and call_model.py read it, and what its lines tell of the numbers of a state."""
 import collections
 import sys
 
@@ -11,7 +11,7 @@ WORDS = {"process": 1, "sema": 2, "pipe": 1, "sleep": 2, "wakeup": 2, "note": 2,
 
 
 def refuse(why):
-    print(f"model.py: {why}", file=sys.stderr)
+    print(why, file=sys.stderr)
     sys.exit(2)
 
 
@@ -107,14 +107,3 @@ class Script:
 
     def most_units(self, sema):
         return self.semas[sema] + sum(self.net(pid, sema)[0] for pid in range(len(self.calls)))
-
-    def most_waiting(self, sema):
-        """How many can wait at once: not so many that there would be a unit even where the others have taken the most."""
-        nets = [self.net(pid, sema) for pid in range(len(self.calls))]
-        units, number = self.semas[sema] + sum(least for _, least, _ in nets), 0
-        for more in sorted(before - least for _, least, before in nets if before is not None):
-            units += more
-            if units > 0:
-                break
-            number += 1
-        return number

@@ -90,4 +90,6 @@ def block_program_of(script):
     while left:
         pid = numbered(left.pop(), names)[1]
         bodies[pid] += read_block(left, names)[0]
-    return BlockProgram(int(first[2]), devices, bodies)
+    program = BlockProgram(int(first[2]), devices, bodies)
+    program.names = names
+    return program

@@ -6,13 +6,13 @@ AFTER = ["#", " # it waits", "   #", "# end # end", " #\t"]
 
 
 def commented(script):
-    """A script with comments, always the same for one script. Also of each line its number there, and that of the line after the last."""
+    """A script with comments, always the same for one script; none after a space, which it would take along. Also of each line its number there, and that of the line after the last."""
     dice = random.Random(script)
     out, numbers, some = [], [], dice.choice([0, 0.2, 0.5])
     for line in script.split("\n")[:-1]:
         while dice.random() < some / 2:
             out.append(dice.choice(NOTHING))
-        out.append(line + (dice.choice(AFTER) if dice.random() < some and "#" not in line else ""))
+        out.append(line + (dice.choice(AFTER) if dice.random() < some and "#" not in line and not line.endswith(" ") else ""))
         numbers.append(len(out))
     while dice.random() < some / 2:
         out.append(dice.choice(NOTHING))

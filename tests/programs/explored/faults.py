@@ -1,6 +1,8 @@
 """Scripts with a fault."""
+import itertools
 import random
 
+from explored.agreement import second_reader
 from explored.maker import random_program
 from explored.program import (
     ANSWERS, ATOMIC_SIZE, HANGUP, LAST_MOMENT, MOST_MS, MOST_TIMES, MOST_UNITS, TIMED, Program)
@@ -40,8 +42,7 @@ NO_DEADLINE = ["sleep_within 0 0", "sleep_within 1 0 0", "sleep_within 1 1 0 0 0
 # Lines of calls that a script has only with a clock.
 CLOCKED = ["tick 0", f"tick {LAST_MOMENT}", "ticks 0", "sleep_within 0 0 0 0", f"sleep_within {LAST_MOMENT} {MOST_MS} 0 1"]
 # Lines that may not stand between `repeat` and `end`.
-NO_REPEATED = ["repeat 2", "repeat 1", "end 2", "process 0", "space 1", "sema 0 1", "pipe 1", "pipe 1 stream", "world 1 1", "ends",
-               "clock", "on interrupted end", "on end end", "on hungup end", "on not_now end", "on timed_out end", "end:"]
+NO_REPEATED = ["end 2", "process 0", "space 1", "sema 0 1", "pipe 1", "pipe 1 stream", "world 1 1", "ends", "clock", "or", "on end"]
 
 
 def within(dice, lines):
@@ -95,10 +96,11 @@ def no_branch(dice, above):
 def random_fault(seed):
     """A script with one faulty line, and that line's number."""
     dice = random.Random(f"fault {seed}")
-    program, _ = random_program("devices", seed)
-    program = Program(program.own, program.devices, program.calls, branches=program.branches)
-    lines, devices = list(program.lines()), len(program.devices)
     kind = dice.choice(["world", "device", "no process", *2 * ["call", "repeat", "untimed"], *3 * ["impossible", "branch"]])
+    programs = (random_program("devices", f"{seed}.{number}")[0] for number in itertools.count())
+    program = next(program for program in programs if not second_reader(program))
+    program = Program(program.own, program.devices, program.calls, branches={} if kind == "repeat" else program.branches)
+    lines, devices = list(program.lines()), len(program.devices)
     if kind == "world":
         lines[0] = dice.choice(NO_WORLD)
         return "\n".join([*lines, ""]), 1
@@ -114,9 +116,9 @@ def random_fault(seed):
             end = next((place for place in range(at, len(lines)) if lines[place].startswith("process ")), len(lines))
             return "\n".join([*lines, ""]), end + 1
     elif kind == "repeat":
-        # In a `repeat` without its `end` the next `process` line, `on` or label is at fault, or the line after the last.
+        # In a `repeat` without its `end` the next `process` line is at fault, or the line after the last.
         lines.insert(at, f"repeat {dice.randint(1, MOST_TIMES)}")
-        faulty = [place for place, line in enumerate(lines) if place >= at and (line.startswith("process ") or is_of_branch(line))]
+        faulty = [place for place, line in enumerate(lines) if place >= at and line.startswith("process ")]
         end = min([*faulty, len(lines)])
         if dice.random() < 0.5:
             return "\n".join([*lines, ""]), end + 1

@@ -1,28 +1,18 @@
 """The machine of events and the machine of calls beside each other: what fails where the two differ."""
 import collections
 
-from explored.agreement import fail
+from explored.agreement import fail, second_reader
 from explored.calls import CallMachine
 from explored.classics import STATES
 from explored.machine import Machine
 from explored.maker import random_program
-from explored.program import EXPIRED, TIMED, bits_of, program_of, without_deadline
+from explored.program import EXPIRED, TIMED, bits_of, program_of
 from explored.searching import LIMIT, search
 
 # Which random programs are compared. Those with branches, and those with deadlines, are of devices.
 KINDS = ("core", "devices", "locks", "branches", "deadlines")
 # How many states a program has at most by events: those with few steps have as many kinds of steps, and are quickly searched.
 FEWER = 2000
-
-
-def has_two_readers(program):
-    """Whether two processes read one direction, which the library's types exclude, and the machine of calls takes not."""
-    readers = collections.defaultdict(set)
-    for pid, row in enumerate(program.calls):
-        for verb, *words in map(without_deadline, row):
-            if verb in ("read", "try_read"):
-                readers[words[0]].add(pid)
-    return any(len(pids) > 1 for pids in readers.values())
 
 
 def posts_expired(program):
@@ -73,18 +63,12 @@ def grains_differ(program, events):
     return found_differ(program, events, calls), calls
 
 
-def why_not(program, events, differs):
-    """Where the searches differ, or what they found from something else; or None. Also what the search by calls found."""
-    why, calls = grains_differ(program, events)
-    return why or differs(program, events, calls), calls
-
-
-def smallest(program, differs):
+def smallest(program):
     """A program that differs too, and none of those that lack a call, a device or a process more."""
     for candidate in program.smaller():
-        found = candidate and not has_two_readers(candidate) and search(Machine(candidate), LIMIT)
-        if found and why_not(candidate, found, differs)[0]:
-            return smallest(candidate, differs)
+        found = candidate and not second_reader(candidate) and search(Machine(candidate), LIMIT)
+        if found and grains_differ(candidate, found)[0]:
+            return smallest(candidate)
     return program
 
 
@@ -96,19 +80,20 @@ def has_its_states():
             fail(f"by calls it has {found.states} states and {found.verdict}, of this program:\n" + "\n".join(lines))
 
 
-def grains_agree(seeds, differs=lambda program, events, calls: None):
-    """Compares the random programs of each kind with these seeds, and what both searches found with something else."""
+def grains_agree(seeds):
+    """Compares the random programs of each kind with these seeds by both machines, and gives each with what was found so far."""
     taken = collections.Counter()
     for kind, seed in ((kind, seed) for kind in KINDS for seed in seeds):
         program, found = random_program(kind, seed, FEWER)
-        if has_two_readers(program):
+        if second_reader(program):
             taken["refused"] += 1
+            yield f"{kind} {seed}", program, taken
             continue
-        why, calls = why_not(program, found, differs)
+        why, calls = grains_differ(program, found)
         if why:
-            small = smallest(program, differs)
-            fail(f"{kind} {seed}: {why_not(small, search(Machine(small), LIMIT), differs)[0]}, of this program:\n{small.script()}")
+            small = smallest(program)
+            fail(f"{kind} {seed}: {grains_differ(small, search(Machine(small), LIMIT))[0]}, of this program:\n{small.script()}")
         taken.update({answer for _, answer in calls.branched} | found.came_to)
         taken.update({"programs": 1, found.verdict: 1, "none ends": not found.ends, "last": len(found.last), "events": found.states,
                       "calls": calls.states, "expired": posts_expired(program)})
-    return taken
+        yield f"{kind} {seed}", program, taken

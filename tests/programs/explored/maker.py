@@ -1,7 +1,7 @@
 """Random programs."""
 import random
 
-from explored.answers import VERBS
+from explored.call_words import EVENTS
 from explored.deadlines import add_deadlines, add_late_notes, add_ticks, random_feeder, random_moments
 from explored.machine import TICKED, Machine
 from explored.program import ANSWERS, HANGUP, KINDS, MOST_TIMES, MOST_UNITS, TIMED, Branch, Program
@@ -187,7 +187,7 @@ def with_branches(dice, program):
 
 
 # Names that an answer has for other things.
-WORDS = [*VERBS, "world", "states", "stuck", "process", "refused", "waits", "sleeps", "chart", "for", "held", "by", "semaphore", "e0",
+WORDS = [*EVENTS, "acquires", "reads", "sets", "world", "states", "stuck", "process", "refused", "waits", "sleeps", "chart", "for", "held", "by", "semaphore", "e0",
          "A-long_name-of-32-letters-or-less"[:32]]
 # Labels, some of which names may be too.
 LABELS = [*WORDS[:4], WORDS[-1], "on", "end", "repeat", *ANSWERS, "process", "e0", "A_1-"]
