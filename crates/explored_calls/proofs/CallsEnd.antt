@@ -82,8 +82,10 @@ module _ (At Out : Type 0) (line : Line) (calls : is_sleep line.call ≡ false) 
           (onto line.next (record before { notes = joined before.notes set }))
       by_test true is = refl
       by_test false is =
-          ap (λ (some : NoteSet). onto line.next (record before { notes =
-              joined before.notes some }))
+          ap (λ (some : NoteSet). onto line.next (record before {
+            notes =
+                joined before.notes some;
+          }))
           (no_notes_in set is)
           ∙ ap (λ (some : NoteSet). onto line.next (record before { notes = some }))
           (joined_none before.notes)

@@ -77,12 +77,13 @@ use Rattle.explored_calls.proofs.WaitSteps
 
 module _ (program : Program) (is_program : IsProgram program) (covered : IsCovered program)
     (given : Spot → Given) (objects : Objects) where
-  -- the explorer follows to this position, in which the directions are as it has them
-  pub record IsFollowedTo (v : View program objects) : Type 0 where
+  -- after a move of this process the explorer follows to this position, in which the directions are
+  -- as it has them
+  pub record IsFollowedBy (m : Running) (pid : ℕ) (v : View program objects) : Type 0 where
     -- the directions of the explorer
     pub pipes : List Direction
     -- it comes to that position
-    pub followed : IsFollowed program objects pipes v
+    pub followed : IsFollowed program objects m pid pipes v
     -- and has the directions so
     pub piped : PipesFit objects program v.object.pipes v.state pipes
 
@@ -93,6 +94,10 @@ module _ (program : Program) (is_program : IsProgram program) (covered : IsCover
       (line_is : slice_get program.lines spot.place ≡ Some line) (pipe : ℕ)
       (there : pipe < length program.pipes) (at_call : pipe_of line.call ≡ pipe)
       (old : CallState) (is : v.state pid ≡ In spot (AtPipe pipe old)) where
+    -- the explorer follows to this position
+    abbrev pub IsFollowedTo : View program objects → Type 0
+    IsFollowedTo w = IsFollowedBy m pid w
+
     -- the direction
     abbrev d : DirectionState
     d = pipe_in objects v.object.pipes pipe
@@ -220,6 +225,7 @@ module _ (program : Program) (is_program : IsProgram program) (covered : IsCover
                 own phases notes_own notes_else values lines
                 (λ sema. ap (λ (st : ProgramState Spot ObjectCall). waits_at program st sema) is)
                 (ap (waits_in_space program) is);
+            others = λ other apart. inl (phases other apart);
           };
           piped = dirs_fit;
         }
