@@ -237,7 +237,8 @@ module _ (program : Program) (is_program : IsProgram program) (covered : IsCover
                 },
               )
               (λ other apart. sym (at_else pid other
-              (phase_for deadline spot.place (want.Unit number)) m.phase apart)) (fits.notes pid low) (λ other apart. refl) refl
+              (phase_for deadline spot.place (want.Unit number)) m.phase apart)) (fits.notes pid
+              low) (λ other apart. refl) refl
               (fits.values number there) (λ sema apart. refl)
               (rw (itself (want.Unit number)) (ap (λ (l : List ℕ). l ++ pid ∷ []) (fits.lines
               number there)))

@@ -1,4 +1,5 @@
--- Where a call with a deadline lands that has cancelled its timer, or has got the note of a tick: it
+-- Where a call with a deadline lands that has cancelled its timer, or has got the note of a tick:
+-- it
 -- is over, or puts notes back, or awaits that note.
 use Rattle.std.proofs.Common.{◌≡◌, ℕ, ◌<◌, Bool, if◌then◌else◌, true, false, not, ◌&&◌, Option}
 use Rattle.std.proofs.Common.{Some, None, Ok, Err, refl, sym, ap, ◌∙◌, subst}
@@ -117,6 +118,7 @@ after_noted place line (PutsBack set (Ok out)) so noted = noted
 after_noted place line (Awaits all end) so noted = noted
 after_noted place line other so noted = so
 
+-- nor does it stand in a line
 pub after_out : (place : ℕ) (line : Line) (at : TimedState ObjectCall ObjectOut) → EndsSo at
     → (what : Want) (test : Bool) → is_for what (waits_by (after_phase place line at) test) ≡ false
 after_out place line (Over (Ok out)) so what test = refl
@@ -192,9 +194,13 @@ module _ (program : Program) (is_program : IsProgram program) (covered : IsCover
   -- it goes so then
   pub record Lands (granted : Want → Bool) (pid : ℕ) (now : ProgramState Spot TimedObjectCall)
       (phase : Phase) : Type 0 where
+    -- as its call at the objects does
     pub phase_is : IsPhase program granted pid (inner now) phase
+    -- it goes by its machine
     pub kind : IsKind program pid now phase
+    -- its timer is not set
     pub unset : timer_in phase ≡ timer.Unset
+    -- and it has put no write
     pub quiet : IsQuiet objects (inner now)
 
   module _ (objects_are : AreItsObjects program objects) (granted : Want → Bool) (pid : ℕ)

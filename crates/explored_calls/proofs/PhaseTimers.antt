@@ -1,4 +1,5 @@
--- A process in a call at the objects has no timer set, or its call has a deadline, and then it goes on
+-- A process in a call at the objects has no timer set, or its call has a deadline, and then it
+-- goes on
 -- as it does when a tick takes its timer.
 use Rattle.std.proofs.Common.{◌≡◌, ◌⊎◌, inl, inr, ℕ, Bool, true, false, Option, Some}
 use Rattle.std.proofs.Common.{None, Ok, Err, refl, sym, ap, ◌∙◌, subst}

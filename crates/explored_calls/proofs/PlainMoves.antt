@@ -48,7 +48,8 @@ use Rattle.explored_calls.proofs.PipeMoves.{IsFollowedBy}
 use Rattle.explored_calls.proofs.PipePhases.{PipesFit}
 use Rattle.explored_calls.proofs.PipeSteps.{follows_move}
 use Rattle.explored_calls.proofs.Running.{Follows, Phase, Running, timer_in}
-use Rattle.explored_calls.proofs.TimedKinds.{IsUnchosen, IsKind, IsPlain, arrives_so, inner, inner_arrived}
+use Rattle.explored_calls.proofs.TimedKinds.{IsUnchosen, IsKind, IsPlain, arrives_so, inner}
+use Rattle.explored_calls.proofs.TimedKinds.{inner_arrived}
 use Rattle.explored_calls.proofs.TimedKinds.{timed_arrived}
 use Rattle.explored_calls.proofs.TimedViews.{AreKinds, Comes, TimedView, by_followed, inner_view}
 use Rattle.explored_calls.proofs.TimedViews.{timed}
@@ -91,7 +92,8 @@ module _ (program : Program) (is_program : IsProgram program) (covered : IsCover
 
   -- what a call does is what it does at the objects
   pub plain_does : (spot : Spot) (at : ObjectCall)
-      → (timed program is_program covered given objects).machine.does (In spot (Plain at)) ≡ as_does (plain.machine.does (In spot at))
+      → (timed program is_program covered given objects).machine.does (In spot (Plain at)) ≡
+      as_does (plain.machine.does (In spot at))
   plain_does spot at = by_next ((object_calls objects).machine.does at)
     where
       by_next : (does : Next ObjectRequest ObjectOut)
@@ -106,9 +108,9 @@ module _ (program : Program) (is_program : IsProgram program) (covered : IsCover
     -- a move at the objects
     pub record IsInner (does : Next ObjectRequest Unit)
         (grain : Grain (TimedRequest ObjectRequest) (TimedReply ObjectReply)) : Type 0 where
-      -- the move
+      -- what its call does at its objects
       pub own : Grain ObjectRequest ObjectReply
-      -- is this one
+      -- with the timers left as they are
       pub is : grain ≡ as_grain (object_calls objects) own
       -- and may be made there
       pub may : MayLoosely plain s.device notes does own
@@ -116,7 +118,8 @@ module _ (program : Program) (is_program : IsProgram program) (covered : IsCover
     -- what may come of a call at the objects is such a move
     pub inner_of : (does : Next ObjectRequest Unit)
         (grain : Grain (TimedRequest ObjectRequest) (TimedReply ObjectReply))
-        → MayLoosely (timed program is_program covered given objects) s notes (next_with ToDevice (λ (u : Unit). u) does) grain
+        → MayLoosely (timed program is_program covered given objects) s notes (next_with ToDevice
+        (λ (u : Unit). u) does) grain
         → IsInner does grain
     inner_of (Next.Ask own) (Heard (ToDevice request) reply) may =
         let same : own ≡ request = (let is = may.0 in cc) in
@@ -154,12 +157,14 @@ module _ (program : Program) (is_program : IsProgram program) (covered : IsCover
     inner_of Next.Drain (Drained set) may =
         record { own = Drained set; is = refl; may = (refl, may.1) }
     inner_of does grain may =
-        absurd (comes_loosely (timed program is_program covered given objects) s notes (next_with ToDevice (λ (u : Unit). u) does) grain may)
+        absurd (comes_loosely (timed program is_program covered given objects) s notes (next_with
+        ToDevice (λ (u : Unit). u) does) grain may)
 
   module _ (objects_are : AreItsObjects program objects)
       (modes : (pipe : ℕ) → pipe < length program.pipes
       → is_stream (pipe_at objects pipe).row.mode ≡ is_stream_at program pipe)
-      (w : TimedView program is_program covered given objects) (pipes : List Direction) (m : Running)
+      (w : TimedView program is_program covered given objects) (pipes : List Direction) (m :
+      Running)
       (follows : Follows program pipes m)
       (fits : Fits program objects (inner_view program is_program covered given objects w) m)
       (piped : PipesFit objects program w.object.device.pipes (λ n. inner (w.state n)) pipes)

@@ -147,7 +147,8 @@ module _ (program : Program) (objects : Objects) where
         record {
           next = next;
           follows = followed;
-          fits = own_fits next t object state notes becomes long stages own phases notes_own notes_else counted
+          fits = own_fits next t object state notes becomes long stages own phases notes_own
+              notes_else counted
               value_here value_else line_here line_else idle before;
           others = λ other apart. inl (phases other apart);
         }
@@ -180,7 +181,8 @@ module _ (program : Program) (objects : Objects) where
           followed = record {
             next = next;
             follows = followed;
-            fits = own_fits next t object state notes becomes long stages own phases notes_own notes_else counted
+            fits = own_fits next t object state notes becomes long stages own phases notes_own
+                notes_else counted
                 value_here value_else line_here line_else idle before;
             others = λ other apart. inl (phases other apart);
           };

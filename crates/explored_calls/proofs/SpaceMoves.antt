@@ -862,7 +862,8 @@ module _ (program : Program) (is_program : IsProgram program) (covered : IsCover
                   → IsStepped program objects m pid pipes
                   (heard (Call pid offered.tag offered.value) (meets_at (Calls Begun)))
               by_told (inl (count, waits)) =
-                  reply_at (IsStepped program objects m pid pipes) (Call pid offered.tag offered.value) (reply.Wait count)
+                  reply_at (IsStepped program objects m pid pipes) (Call pid offered.tag
+                  offered.value) (reply.Wait count)
                   (put v.object.space pid (Waiting offered.tag offered.value) count)
                   (meets_at (Calls Begun)) (meets_at (Calls (Waits count))) waits.told_is
                   waits.after_is refl (waits_now count nobody.none)

@@ -712,10 +712,13 @@ module _ (program : Program) (is_program : IsProgram program) (covered : IsCover
 
     -- a tick after which its process is where it was has found none, and leads to itself
     pub record IdlesSo : Type 0 where
+      -- no timer is due
       pub none : seat_due now w.object.timers ≡ None
+      -- and its next place is its own
       pub back_at : timed_arrived program is_program covered given objects pid kind.line.next
           ≡ In spot (Tick now (Asks count))
 
+    -- so it is with each that is where it was
     pub idles_so : (timed program is_program covered given objects).machine.goes_on (w.state pid)
         (Outcome.Replied (FromTimers (answer_to w.object.timers (Expire now))))
         ≡ In spot (Tick now (Asks count))

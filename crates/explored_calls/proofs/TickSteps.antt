@@ -57,10 +57,12 @@ run_out (Timing.LeavesServed clock notes) = Timing.LeavesServed Clock.RanOut not
 run_out (Timing.Cancels clock ends notes) = Timing.Cancels Clock.RanOut ends notes
 run_out other = other
 
+-- so with a halt
 abbrev pub ran_halt : Halt → Halt
 ran_halt (Times timing) = Times (run_out timing)
 ran_halt other = other
 
+-- and with a phase
 abbrev pub ran_out : Phase → Phase
 ran_out (Timed place timing set) = Timed place (run_out timing) set
 ran_out other = other
@@ -475,6 +477,7 @@ module _ (program : Program) (pipes : List Direction) (m : Running)
   after_telling =
       if nat_lt 0 more then Timed place (Timing.Expires more) no_notes else Is line.next
 
+  -- then the note is pending for the other
   abbrev pub telling : Running
   telling =
       record m {
@@ -512,6 +515,7 @@ module _ (program : Program) (pipes : List Direction) (m : Running)
             leads = λ q test set. rw none refl;
           }
 
+  -- the explorer comes to that position
   pub tells : Follows program pipes telling
   tells turned may =
       reaches_same program _ _ same

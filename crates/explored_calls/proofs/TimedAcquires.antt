@@ -1,4 +1,5 @@
--- The moves of a semacquire with a deadline at its semaphore, once its timer is set, are followed by
+-- The moves of a semacquire with a deadline at its semaphore, once its timer is set, are followed
+-- by
 -- the explorer.
 use Rattle.std.proofs.Common.{◌≡◌, ◌≢◌, ◌⊎◌, inl, inr, ℕ, ◌<◌, Bool, if◌then◌else◌, true}
 use Rattle.std.proofs.Common.{false, Some, List, length, refl, sym, ap, ◌∙◌, subst}
@@ -148,7 +149,8 @@ module _ (program : Program) (is_program : IsProgram program) (covered : IsCover
             no_notes).phase pid) (Some moment) made go granted (
               clock,
               at_self pid (Timed spot.place (leaving_so (m.notes pid) go clock) no_notes)
-                  m.phase ∙ ap (λ (set : NoteSet). Timed spot.place (leaving_so set go clock) no_notes)
+                  m.phase ∙ ap (λ (set : NoteSet). Timed spot.place (leaving_so set go clock)
+                  no_notes)
                   (sym same_notes),
             ))
             (λ other apart. sym (at_else pid other
@@ -293,7 +295,8 @@ module _ (program : Program) (is_program : IsProgram program) (covered : IsCover
             number there spot by line line_is)
             (rests_here program is_program covered given objects v pipes m follows fits pid low
             number there spot by line line_is)
-            refl refl (λ other. still pid m.notes other) refl (fits.lines number there) (λ what apart. refl)
+            refl refl (λ other. still pid m.notes other) refl (fits.lines number there) (λ what
+            apart. refl)
             (clock, refl)
             (steps.served_cancels program pipes m follows pid low spot.place line line_is clock so)
             (sym (ap timer_in so)))
@@ -359,7 +362,8 @@ module _ (program : Program) (is_program : IsProgram program) (covered : IsCover
             number there spot by line line_is)
             (rests_here program is_program covered given objects v pipes m follows fits pid low
             number there spot by line line_is)
-            refl refl (λ other. still pid m.notes other) refl (fits.lines number there) (λ what apart. refl)
+            refl refl (λ other. still pid m.notes other) refl (fits.lines number there) (λ what
+            apart. refl)
             (clock, refl)
             (steps.leaves_served program pipes m follows pid low spot.place line line_is clock set
             so) (sym (ap timer_in so)))

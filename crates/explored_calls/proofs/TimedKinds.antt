@@ -1,4 +1,5 @@
--- How a process goes in a call with a deadline and in a tick, and what the timers are: what holds in
+-- How a process goes in a call with a deadline and in a tick, and what the timers are: what holds
+-- in
 -- each position of a run, besides what holds of the calls at the objects.
 use Rattle.std.proofs.Common.{◌≡◌, ◌⊎◌, inl, inr, ℕ, zero, ◌-◌, ◌<◌, ◌≤◌, ◌==◌, Bool}
 use Rattle.std.proofs.Common.{if◌then◌else◌, true, false, Option, Some, None, Ok, Err}
@@ -73,7 +74,8 @@ is_tick (call.Tick now) = true
 is_tick (call.Ticks now) = true
 is_tick other = false
 
--- the call at the objects that a process is in; one that ticks, and one that waits for no object, is
+-- the call at the objects that a process is in; one that ticks, and one that waits for no object,
+-- is
 -- in none
 abbrev pub inner : ProgramState Spot TimedObjectCall → ProgramState Spot ObjectCall
 inner (In spot (Plain at)) = In spot at
@@ -114,6 +116,7 @@ IsBeginning Begun = ⊤
 IsBeginning (Waits number) = ⊤
 IsBeginning other = ⊥
 
+-- the same of a rendezvous
 abbrev pub MeetBegins : MeetState → Type 0
 MeetBegins (Calls at) = IsBeginning at
 MeetBegins (WakesPartner found) = ⊤
@@ -145,6 +148,7 @@ pub record AwaitsAt (place : ℕ) (all : NoteSet) (end : WaitEnd ObjectOut) (pha
     pub lacks : holds all Expired ≡ false
     -- how its wait ended
     pub is_end : IsEnd end
+    -- with its result, if it has one
     pub done : IsDone end
     -- and it awaits that note
     pub phase_is : phase ≡ Timed place (Timing.Awaits (ending_so end) held) taken
@@ -159,7 +163,8 @@ pub record PutsAt (next : ℕ) (set : NoteSet) (out : ObjectOut) (phase : Phase)
 -- where such a call is
 abbrev pub UntilSo : Line → ℕ → TimedState ObjectCall ObjectOut → Phase → Type 0
 UntilSo line place (Begins at) phase = BeginsSo at × (timer_in phase ≡ timer.Unset)
-UntilSo line place (WaitsFor at failed) phase = WaitsSo at failed × (is_used (timer_in phase) ≡ true)
+UntilSo line place (WaitsFor at failed) phase = WaitsSo at failed × (is_used (timer_in phase) ≡
+    true)
 UntilSo line place (Awaits all end) phase = AwaitsAt place all end phase
 UntilSo line place (PutsBack set (Ok out)) phase = PutsAt line.next set out phase
 UntilSo line place other phase = ⊥
@@ -178,9 +183,11 @@ module _ (program : Program) where
     pub waits : has_deadline line.call ≡ true
     -- it waits until that, by its own timer
     pub pid_is : until.pid ≡ record { 0 = pid }
+    -- which is that of its seat
     pub seat_is : until.seat ≡ pid
+    -- until the moment of its line
     pub moment_is : deadline_of line.call ≡ Some until.moment
-    -- and goes so
+    -- its call has come so far
     pub so : UntilSo line spot.place at phase
 
   -- a tick that ends once no timer is due
@@ -413,7 +420,8 @@ module _ (program : Program) (is_program : IsProgram program) (covered : IsCover
 
   module _ (objects_are : AreItsObjects program objects) where
     -- it asks for a timer first: there is a process, and so a timer
-    pub asks_first : (pid : ℕ) → pid < procs_of program → (now : ℕ) → first_tick objects now ≡ Asks 0
+    pub asks_first : (pid : ℕ) → pid < procs_of program → (now : ℕ) → first_tick objects now ≡ Asks
+        0
     asks_first pid low now = rw some refl
       where
         many : procs (object_calls objects) ≡ procs_of program
@@ -425,7 +433,9 @@ module _ (program : Program) (is_program : IsProgram program) (covered : IsCover
 
     -- a process that has arrived is of the kind of its line, and its timer is not set
     pub record HasArrived (pid place : ℕ) (phase : Phase) : Type 0 where
+      -- it is of that kind
       pub kind : IsKind program pid (timed_arrived pid place) phase
+      -- and its timer is not set
       pub unset : timer_in phase ≡ timer.Unset
 
     -- so is one that goes as its call at the objects begins

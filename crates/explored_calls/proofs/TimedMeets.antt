@@ -1,4 +1,5 @@
--- The moves of a rendezvous with a deadline in the tag space, once its timer is set, are followed by
+-- The moves of a rendezvous with a deadline in the tag space, once its timer is set, are followed
+-- by
 -- the explorer.
 use Rattle.std.proofs.Common.{◌≡◌, ◌⊎◌, inl, inr, ℕ, ◌<◌, Bool, if◌then◌else◌, true}
 use Rattle.std.proofs.Common.{false, Some, List, length, refl, sym, ap, ◌∙◌, subst}
@@ -181,7 +182,8 @@ module _ (program : Program) (is_program : IsProgram program) (covered : IsCover
                     clock,
                     at_self pid
                         (Timed spot.place (leaving_so (m.notes pid) go clock) no_notes) m.phase
-                        ∙ ap (λ (set : NoteSet). Timed spot.place (leaving_so set go clock) no_notes)
+                        ∙ ap (λ (set : NoteSet). Timed spot.place (leaving_so set go clock)
+                        no_notes)
                         (sym same_notes),
                   );
               phases_else = λ other far. sym (at_else pid other

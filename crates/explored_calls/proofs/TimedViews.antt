@@ -1,4 +1,5 @@
--- A position of a run with deadlines and ticks: the calls at the objects, and the timers. What a move
+-- A position of a run with deadlines and ticks: the calls at the objects, and the timers. What a
+-- move
 -- owes so that the explorer follows it.
 use Rattle.std.proofs.Common.{◌≡◌, ◌≢◌, inl, inr, ℕ, ◌<◌, ◌==◌, Bool, if◌then◌else◌, true}
 use Rattle.std.proofs.Common.{false, None, List, length, refl, sym, ap, ◌∙◌, subst}
@@ -167,22 +168,25 @@ module _ (program : Program) (is_program : IsProgram program) (covered : IsCover
           (λ (other : ℕ). inner (w.state other));
       notes = at_one (receiver pid grain) (notes_by (w.notes (receiver pid grain)) grain) w.notes;
     }) next
-    -- with these directions
+    -- what is in each direction is as the explorer has it
     pub piped : PipesFit objects program (object_with timed w.object grain).device.pipes
         (at_one pid (inner (timed.machine.goes_on (w.state pid) (outcome_by grain)))
         (λ (other : ℕ). inner (w.state other))) pipes
-    -- these timers
+    -- for each process there is one timer
     pub sized : length (object_with timed w.object grain).timers ≡ procs_of program
+    -- as the explorer has it
     pub timers : (other : ℕ) → other < procs_of program
         → timer_of (object_with timed w.object grain).timers other
         ≡ seat_timer other (timer_in (next.phase other))
     -- and each process goes so
     pub kind : IsKind program pid (timed.machine.goes_on (w.state pid) (outcome_by grain))
         (next.phase pid)
+    -- and so does each other
     pub kinds_else : (other : ℕ) → other < procs_of program → other ≢ pid
         → IsKind program other (w.state other) (next.phase other)
 
-  module _ (w : TimedView) (pipes : List Direction) (m : Running) (follows : Follows program pipes m)
+  module _ (w : TimedView) (pipes : List Direction) (m : Running) (follows : Follows program pipes
+      m)
       (fits : Fits program objects (inner_view w) m)
       (piped : PipesFit objects program w.object.device.pipes (λ n. inner (w.state n)) pipes)
       (are : AreKinds w m) (pid : ℕ) (low : pid < procs_of program)

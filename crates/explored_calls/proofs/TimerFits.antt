@@ -274,7 +274,7 @@ pub record IsSet (first : ℕ) (timers : List SeatTimer) (due : SeatDue) : Type 
   pub place : ℕ
   -- it is the timer of this seat
   pub seat_is : due.seat ≡ first + place
-  -- which is there
+  -- it is one of the list
   pub within : place < length timers
   -- the process that is told when it expires
   pub pid : Pid

@@ -175,6 +175,7 @@ module _ (program : Program) (pipes : List Direction) (m : Running)
         process_as (seen program pipes m turned) pid place (Times timing)
         (joined (m.notes pid) extra)
 
+    -- the process of the explorer
     pub process_is : (turned : ℕ → Bool)
         → process_of (seen program pipes m turned) pid ≡ process turned
     process_is turned =
@@ -182,15 +183,18 @@ module _ (program : Program) (pipes : List Direction) (m : Running)
         (place_by program p (turned pid)) (waits_by p (turned pid))
         (notes_by p (turned pid) (m.notes pid))) is
 
+    -- the call that it makes is at its place
     pub its_line : (turned : ℕ → Bool)
         → slice_get program.lines ((seen program pipes m turned).place pid) ≡ Some line
     its_line turned =
         ap (λ (p : Phase). slice_get program.lines (place_by program p (turned pid))) is ∙ line_is
 
+    -- what is pending for it
     pub its_notes : (turned : ℕ → Bool)
         → (seen program pipes m turned).notes pid ≡ joined (m.notes pid) extra
     its_notes turned = ap (λ (p : Phase). notes_by p (turned pid) (m.notes pid)) is
 
+    -- and how it waits
     pub its_wait : (turned : ℕ → Bool) → (seen program pipes m turned).waits pid ≡ Times timing
     its_wait turned = ap (λ (p : Phase). waits_by p (turned pid)) is
 
@@ -208,6 +212,7 @@ module _ (program : Program) (pipes : List Direction) (m : Running)
           ≡ process_as (seen program pipes m turned) pid (place_by program phase (turned pid))
           (waits_by phase (turned pid)) (notes_by phase (turned pid) set)
 
+    -- the position in which it has become another
     pub becomes_shows : (phase : Phase) (set : NoteSet) (to : (ℕ → Bool) → Process → Process)
         → Becomes phase set to → (turned : ℕ → Bool)
         → (reaches : Reaches program (seen program pipes m turned))
@@ -384,7 +389,7 @@ module _ (program : Program) (pipes : List Direction) (m : Running)
           line = at_want what (without pid (m.line what)) m.line;
         }
 
-    -- its step
+    -- one that notes made go leaves those who wait
     pub leaves_line : (clock : Clock) (what : Want) (held : NoteSet)
         → m.phase pid ≡ Timed place (Timing.Leaves clock what held) no_notes
         → Follows program pipes (out_of_line what

@@ -92,7 +92,8 @@ note_came false false false none some = cc
 module _ (program : Program) (is_program : IsProgram program) (covered : IsCovered program)
     (given : Spot → Given) (objects : Objects) where
   module _ (objects_are : AreItsObjects program objects)
-      (w : TimedView program is_program covered given objects) (pipes : List Direction) (m : Running)
+      (w : TimedView program is_program covered given objects) (pipes : List Direction) (m :
+      Running)
       (follows : Follows program pipes m)
       (fits : Fits program objects (inner_view program is_program covered given objects w) m)
       (piped : PipesFit objects program w.object.device.pipes (λ n. inner (w.state n)) pipes)
@@ -321,7 +322,8 @@ module _ (program : Program) (is_program : IsProgram program) (covered : IsCover
           → waits_in_space program (inner (w.state pid)) ≡ false
           → IsChange w.object.timers timers pid seat.Unset
           → Follow moved
-      lands_so moved state set timers so goes objects_so own notes_so followed none idle out change =
+      lands_so moved state set timers so goes objects_so own notes_so followed none idle out change
+          =
           let land = landing state so in
           own_to program is_program covered given objects w pipes m follows fits piped are pid low
           moved (settle spot until state) goes

@@ -84,7 +84,8 @@ use Rattle.explored_calls.proofs.Running.{Follows, Phase, Running, timer_in}
 use Rattle.explored_calls.proofs.Running.Phase.{Timed}
 use Rattle.explored_calls.proofs.SpaceMoves as meets
 use Rattle.explored_calls.proofs.TimedAcquires as acquires
-use Rattle.explored_calls.proofs.TimedKinds.{BeginsSo, FailedBy, IsKind, IsUntil, WaitsSo, arrives_so}
+use Rattle.explored_calls.proofs.TimedKinds.{BeginsSo, FailedBy, IsKind, IsUntil, WaitsSo}
+use Rattle.explored_calls.proofs.TimedKinds.{arrives_so}
 use Rattle.explored_calls.proofs.TimedKinds.{UntilSo, inner, inner_arrived, timed_arrived}
 use Rattle.explored_calls.proofs.TimedMeets as timed_meets
 use Rattle.explored_calls.proofs.TimedViews.{AreKinds, Comes, TimedView, inner_view}
@@ -180,7 +181,8 @@ module _ (program : Program) (is_program : IsProgram program) (covered : IsCover
           spot.by _
 
   module _ (objects_are : AreItsObjects program objects)
-      (w : TimedView program is_program covered given objects) (pipes : List Direction) (m : Running)
+      (w : TimedView program is_program covered given objects) (pipes : List Direction) (m :
+      Running)
       (follows : Follows program pipes m)
       (fits : Fits program objects (inner_view program is_program covered given objects w) m)
       (piped : PipesFit objects program w.object.device.pipes (λ n. inner (w.state n)) pipes)
@@ -379,7 +381,10 @@ module _ (program : Program) (is_program : IsProgram program) (covered : IsCover
           by_does (Next.Over (Err why)) so is =
               arrives_kind (place_for (Err why) (slice_get program.lines spot.place) spot.place)
               object phase kind.by is
-          by_does (Next.Ask request) (inr begins) is = still at (Begins c) phase kind (begins, unset)
+          by_does (Next.Ask request) (inr begins) is = still at (Begins c) phase kind (
+            begins,
+            unset,
+          )
           by_does (Next.Sleep rendez number) (inr begins) is =
               still at (Begins c) phase kind (begins, unset)
           by_does (Next.Wake rendez level) (inr begins) is =
@@ -461,7 +466,8 @@ module _ (program : Program) (is_program : IsProgram program) (covered : IsCover
             sets_so program is_program covered given objects objects_are w pipes m follows fits
             piped are pid low grain spot until (Begins (takes (Waits number_told))) is kind
             (takes (Waits number_told)) (want.Unit number) go refl refl (λ told. refl) kind.so.1
-            (told_phase Unit go spot.place (want.Unit number) number_told (m.phase pid) phase kind.so.1)
+            (told_phase Unit go spot.place (want.Unit number) number_told (m.phase pid) phase
+            kind.so.1)
             (λ now clocked. AcquireMoves.still_waits program is_program covered given objects v
             pipes m follows fits pid low number there spot kind.by kind.line kind.line_is
             w.object.device (Waits number_told) now (Some until.moment) made go refl (inr clocked))
@@ -868,7 +874,7 @@ module _ (program : Program) (is_program : IsProgram program) (covered : IsCover
           ∙ (ap (λ (l : Line). deadline_of l.call)
           (same_line spot.place other line other_is line_is) ∙ has)
 
-      -- a semacquire
+      -- what a semacquire does is followed, by the seat of its process
       pub takes_comes : (at : ObjectCall → TimedState ObjectCall ObjectOut)
           (number seat : ℕ) (st : WaitState Unit)
           → w.state pid ≡ In spot (Until until (at (AtSema number (Takes seat st))))
@@ -907,7 +913,7 @@ module _ (program : Program) (is_program : IsProgram program) (covered : IsCover
               until_is kind.line phase.1.line phase.1.deadline kind.line_is phase.1.is_at.line_is
               (ap deadline_of phase.1.is_at.call_is) kind.moment_is
 
-      -- or a rendezvous
+      -- what two that meet do is followed, by the member of the process
       pub meets_comes : (at : ObjectCall → TimedState ObjectCall ObjectOut)
           (meeting : MemberCall)
           → w.state pid ≡ In spot (Until until (at (InSpace meeting)))

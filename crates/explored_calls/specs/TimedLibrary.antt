@@ -33,9 +33,9 @@ abbrev pub first_tick : Objects → ℕ → TickState
 first_tick objects now =
     asks_on (procs (object_calls objects)) (procs (object_calls objects)) now 0
 
--- After tsemacquire in semacquire(2): a process waits until this moment, by its own timer. It awaits
--- the note of a tick in the Rendez of its call, which is that of the process in a row that begins
--- here.
+-- After tsemacquire in semacquire(2): a process waits until this moment, by its own timer. It
+-- awaits the note of a tick in the Rendez of its call, which is that of the process in a row that
+-- begins here.
 abbrev pub waits_until : ℕ → ℕ → ℕ → Deadline
 waits_until pid first moment =
     record {
