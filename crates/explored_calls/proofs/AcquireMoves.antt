@@ -1,7 +1,7 @@
 -- The moves of a semacquire, with a wait or without one, are followed by the explorer.
 use Rattle.std.proofs.Common.{◌≡◌, ◌≢◌, ◌⊎◌, inl, inr, ℕ, ◌-◌, ◌<◌, ◌==◌, Bool}
 use Rattle.std.proofs.Common.{if◌then◌else◌, true}
-use Rattle.std.proofs.Common.{false, Some, None, List, [], ◌∷◌, ◌++◌, length}
+use Rattle.std.proofs.Common.{false, Option, Some, None, List, [], ◌∷◌, ◌++◌, length}
 use Rattle.std.proofs.Common.{nat_lt, refl, sym, ap, ◌∙◌, subst, arith, set, Ok, Err}
 use Rattle.std.specs.Prelude.{slice_get, slice_index, slice_set}
 use Rattle.std.proofs.lemmas.Bool.Decides.{nat_tests}
@@ -21,6 +21,7 @@ use Rattle.calls.specs.declared.call.Call.TheVariants as call
 use Rattle.calls.specs.declared.ending.Ending.{Ending}
 use Rattle.calls.specs.declared.ending.Ending.TheVariants as ending
 use Rattle.calls.specs.declared.line.Line.{Line}
+use Rattle.calls.specs.declared.process.Timer.TheVariants as timer
 use Rattle.calls.specs.declared.process.Want.{Want}
 use Rattle.calls.specs.declared.process.Want.TheVariants as want
 use Rattle.calls.specs.Lines.{after_ending}
@@ -48,27 +49,29 @@ use Rattle.explored_calls.specs.LibraryCalls.{place_after}
 use Rattle.explored_calls.proofs.Arrivals.{arrived, at_else, at_self, becomes_after, leads}
 use Rattle.explored_calls.proofs.Arrivals.{own_arrives}
 use Rattle.explored_calls.proofs.Fits.{Becomes, Fits, IsFollowed, IsPhase, View, WaitPhase}
+use Rattle.explored_calls.proofs.Fits.{IsStepped, WaitsAs}
 use Rattle.explored_calls.proofs.Fits.{becomes_itself, granted_in, has_seat, is_waiting}
 use Rattle.explored_calls.proofs.Fits.{numbers_apart, sema_there, stepped, waits_at, waits_in_space}
 use Rattle.explored_calls.proofs.Lists.{at_one}
 use Rattle.explored_calls.proofs.Queued.{itself}
-use Rattle.explored_calls.proofs.Running.{Follows, Phase, Running, joined_none}
+use Rattle.explored_calls.proofs.Running.{Follows, Phase, Running, joined_none, timer_in}
 use Rattle.explored_calls.proofs.Running.Phase.{InLine, Is, Noted, Served}
 use Rattle.explored_calls.proofs.RunningSteps
 use Rattle.explored_calls.proofs.RunningSteps.{Begins, GoesTo, goes, goes_is, goes_served, leaving}
-use Rattle.explored_calls.proofs.RunningSteps.{pending, served_phase, valued, waiting, woken}
+use Rattle.explored_calls.proofs.RunningSteps.{pending, phase_for, served_phase, valued}
+use Rattle.explored_calls.proofs.RunningSteps.{waiting_by, woken}
 use Rattle.explored_calls.proofs.SemaSteps.{IsElsewhere, alone_step, by_reply, goes_now}
-use Rattle.explored_calls.proofs.SemaSteps.{not_waiting, own_step}
+use Rattle.explored_calls.proofs.SemaSteps.{not_waiting, own_step, own_timed, reply_at}
 use Rattle.explored_calls.proofs.UnitFacts
 use Rattle.explored_calls.proofs.UnitFacts.{Answered, IsAlike, Released, alike_self}
 use Rattle.explored_calls.proofs.WaitSteps
 
 -- a stage that is granted tests so
-granted_yes : (stage : Stage) → stage ≡ Granted → is_granted stage ≡ true
+pub granted_yes : (stage : Stage) → stage ≡ Granted → is_granted stage ≡ true
 granted_yes stage is = ap is_granted is
 
 -- and any other does not
-granted_no : (stage : Stage) → stage ≢ Granted → is_granted stage ≡ false
+pub granted_no : (stage : Stage) → stage ≢ Granted → is_granted stage ≡ false
 granted_no Granted is = absurd (is refl)
 granted_no Waiting is = refl
 granted_no Idle is = refl
@@ -80,7 +83,7 @@ module _ (program : Program) (is_program : IsProgram program) (covered : IsCover
       (low : pid < procs_of program) (number : ℕ) (there : number < length program.values) where
     -- the explorer follows to this position
     abbrev Followed : View program objects → Type 0
-    Followed w = IsFollowed program objects pipes w
+    Followed w = IsFollowed program objects m pid pipes w
 
     -- where a process is after its call was told so
     abbrev gone : ProgramState Spot ObjectCall → Outcome ObjectReply → ProgramState Spot ObjectCall
@@ -117,11 +120,13 @@ module _ (program : Program) (is_program : IsProgram program) (covered : IsCover
           → nat_lt 0 (sema_state objects v.object number).value ≡ true
           → stage_of (sema_state objects v.object number) pid ≡ Idle
           → Elsewhere
-          → (line.call ≡ call.Acquire number None ⊎ line.call ≡ call.Try number)
+          → (((deadline : Option ℕ) × (line.call ≡ call.Acquire number deadline))
+          ⊎ line.call ≡ call.Try number)
           → m.phase pid ≡ Is spot.place
-          → Followed (heard hold (arrived program is_program covered given objects pid line.next))
+          → IsStepped program objects m pid pipes
+          (heard hold (arrived program is_program covered given objects pid line.next))
       takes_now hold answered has idle before made phase =
-          own_step program objects v pipes m fits pid low number there
+          own_timed program objects v pipes m fits pid low number there
           (goes (valued m (slice_set m.values number (slice_index m.values number - 1))) pid (Is
           line.next)) (UnitFacts.taken_from (sema_state objects v.object number))
           (object_after objects v.object (OfSema number hold))
@@ -145,37 +150,37 @@ module _ (program : Program) (is_program : IsProgram program) (covered : IsCover
           (record { low = low; phase_is = phase; line_is = line_is }) number (Is line.next)
           (goes_is program line.next) made
           (ap (nat_lt 0) (fits.values number there) ∙ has))
+          (ap timer_in (at_self pid (Is line.next) m.phase) ∙ sym (ap timer_in phase))
 
       -- ---- a semacquire
 
       module _ (at : WaitState Unit) (is : v.state pid ≡ In spot (AtSema number (Takes pid at)))
-          (made : line.call ≡ call.Acquire number None)
-          (phase : WaitPhase {Out = Unit} (granted_in program objects v.object pid (want.Unit
-          number)) spot.place line.next
-          (want.Unit number) at (m.phase pid)) where
-        -- it waits at no other semaphore
-        before_sema : (sema : ℕ) → sema ≢ number → waits_at program (v.state pid) sema ≡ false
-        before_sema sema apart =
-            ap (λ (state : ProgramState Spot ObjectCall). waits_at program state sema) is
-            ∙ by_wait (is_waiting at)
-          where
-            by_wait : (test : Bool) → (if test then number == sema else false) ≡ false
-            by_wait true = numbers_apart number sema apart
-            by_wait false = refl
+        where
+          -- it waits at no other semaphore
+          before_sema : (sema : ℕ) → sema ≢ number → waits_at program (v.state pid) sema ≡ false
+          before_sema sema apart =
+              ap (λ (state : ProgramState Spot ObjectCall). waits_at program state sema) is
+              ∙ by_wait (is_waiting at)
+            where
+              by_wait : (test : Bool) → (if test then number == sema else false) ≡ false
+              by_wait true = numbers_apart number sema apart
+              by_wait false = refl
 
-        -- and so nowhere else
-        before : Elsewhere
-        before = (before_sema, ap (waits_in_space program) is)
+          -- and so nowhere else
+          pub before : Elsewhere
+          before = (before_sema, ap (waits_in_space program) is)
 
       -- it takes a unit, or waits for one
       pub begins_acquire : v.state pid ≡ In spot (AtSema number (Takes pid Begun))
-          → line.call ≡ call.Acquire number None → m.phase pid ≡ Is spot.place
+          → (deadline : Option ℕ) → line.call ≡ call.Acquire number deadline
+          → m.phase pid ≡ Is spot.place
           → is_sema_unworn (hold_answer (sema_state objects v.object number) (Alone (Acquire
           pid))).first ≡ true
-          → Followed (heard (Alone (Acquire pid)) (gone (In spot (AtSema number (Takes pid
+          → IsStepped program objects m pid pipes
+          (heard (Alone (Acquire pid)) (gone (In spot (AtSema number (Takes pid
           Begun))) (Outcome.Replied (BySema (hold_answer (sema_state objects v.object number) (Alone
           (Acquire pid)))))))
-      begins_acquire is made phase fresh =
+      begins_acquire is deadline made phase fresh =
           by_answer (UnitFacts.acquires (sema_state objects v.object number) pid
           (has_seat program objects v m fits number there pid low) idle)
         where
@@ -193,23 +198,26 @@ module _ (program : Program) (is_program : IsProgram program) (covered : IsCover
               (UnitFacts.waits_at (sema_state objects v.object number) pid))
               ⊎ Answered (sema_state objects v.object number) (Alone (Acquire pid))
               (UnitFacts.alone reply.Worn) (sema_state objects v.object number))
-              → Followed (heard (Alone (Acquire pid)) (gone (In spot (AtSema number (Takes pid
+              → IsStepped program objects m pid pipes
+              (heard (Alone (Acquire pid)) (gone (In spot (AtSema number (Takes pid
               Begun))) (Outcome.Replied (BySema
               (hold_answer (sema_state objects v.object number) (Alone (Acquire pid)))))))
           by_answer (inl has) =
-              by_reply program is_program covered given objects v pipes m fits pid low number there
+              reply_at program is_program covered given objects v pipes m fits pid low number there
+              (IsStepped program objects m pid pipes)
               (Alone (Acquire pid)) (UnitFacts.alone reply.Acquired)
               (In spot (AtSema number (Takes pid Begun)))
               (arrived program is_program covered given objects pid line.next) has.1.told_is (lead
               ending.Done) (takes_now (Alone (Acquire pid)) has.1 has.0 idle
-              (before Begun is made phase) (inl made) phase)
+              (before Begun is) (inl (deadline, made)) phase)
           by_answer (inr (none, inl waits)) =
-              by_reply program is_program covered given objects v pipes m fits pid low number there
+              reply_at program is_program covered given objects v pipes m fits pid low number there
+              (IsStepped program objects m pid pipes)
               (Alone (Acquire pid)) (UnitFacts.alone (reply.Wait waits.0))
               (In spot (AtSema number (Takes pid Begun)))
               (In spot (AtSema number (Takes pid (Waits waits.0)))) waits.1.told_is refl
-              (own_step program objects v pipes m fits pid low number there
-              (waiting m pid spot.place (want.Unit number))
+              (own_timed program objects v pipes m fits pid low number there
+              (waiting_by m pid spot.place (want.Unit number) deadline)
               (UnitFacts.waits_at (sema_state objects v.object number) pid)
               (object_after objects v.object (OfSema number (Alone (Acquire pid)))) _ (v.notes pid)
               becomes (length-set (sema_state objects v.object number).stages pid Waiting)
@@ -218,26 +226,43 @@ module _ (program : Program) (is_program : IsProgram program) (covered : IsCover
                 by,
                 record {
                   line = line;
+                  deadline = deadline;
                   is_at = record { line_is = line_is; call_is = made; low = there };
                   seat_is = refl;
-                  phase_is = at_self pid (InLine spot.place (want.Unit number)) m.phase
-                      ∙ ap (λ (go : Bool).
-                      if go then Served line.next no_notes else InLine spot.place (want.Unit
-                      number)) (sym not_granted);
+                  phase_is = subst (λ (go : Bool). WaitsAs {Out = Unit} deadline go spot.place
+                      line.next (want.Unit number) (Waits waits.0)
+                      ((waiting_by m pid spot.place (want.Unit number) deadline).phase pid))
+                      (sym not_granted) (waits_so deadline _ (at_self pid
+                      (phase_for deadline spot.place (want.Unit number)) m.phase));
                 },
               )
-              (λ other apart. sym (at_else pid other (InLine spot.place (want.Unit number)) m.phase
-              apart)) (fits.notes pid low) (λ other apart. refl) refl
+              (λ other apart. sym (at_else pid other
+              (phase_for deadline spot.place (want.Unit number)) m.phase apart)) (fits.notes pid
+              low) (λ other apart. refl) refl
               (fits.values number there) (λ sema apart. refl)
               (rw (itself (want.Unit number)) (ap (λ (l : List ℕ). l ++ pid ∷ []) (fits.lines
               number there)))
               (λ what apart. rw apart refl)
               (λ idle_now. absurd (let self : (number == number) ≡ true = grind (arith, nat_tests)
-              in cc)) (before Begun is made phase)
+              in cc)) (before Begun is)
               (RunningSteps.waits_for_unit program pipes m follows pid spot.place line
-              (record { low = low; phase_is = phase; line_is = line_is }) number made
-              (ap (nat_lt 0) (fits.values number there) ∙ none)))
+              (record { low = low; phase_is = phase; line_is = line_is }) number deadline made
+              (ap (nat_lt 0) (fits.values number there) ∙ none))
+              (ap timer_in (at_self pid (phase_for deadline spot.place (want.Unit number)) m.phase)
+              ∙ (unset deadline ∙ sym (ap timer_in phase))))
             where
+              unset : (until : Option ℕ)
+                  → timer_in (phase_for until spot.place (want.Unit number)) ≡ timer.Unset
+              unset None = refl
+              unset (Some moment) = refl
+
+              waits_so : (until : Option ℕ) (phase : Phase)
+                  → phase ≡ phase_for until spot.place (want.Unit number)
+                  → WaitsAs {Out = Unit} until false spot.place line.next (want.Unit number)
+                  (Waits waits.0) phase
+              waits_so None phase same = same
+              waits_so (Some moment) phase same = inl same
+
               becomes : Becomes program objects v.object
                   (object_after objects v.object (OfSema number (Alone (Acquire pid)))) number
                   (UnitFacts.waits_at (sema_state objects v.object number) pid)
@@ -262,26 +287,36 @@ module _ (program : Program) (is_program : IsProgram program) (covered : IsCover
       granted_now = granted_in program objects v.object pid (want.Unit number)
 
       -- a process in its wait: its phase is as before
+      pub still_waits : (object : ObjectStates) (at : WaitState Unit) (phase : Phase)
+          (deadline : Option ℕ) → line.call ≡ call.Acquire number deadline → (go : Bool)
+          → granted_in program objects object pid (want.Unit number) ≡ go
+          → WaitsAs {Out = Unit} deadline go spot.place line.next (want.Unit number) at phase
+          → IsPhase program (granted_in program objects object pid) pid
+          (In spot (AtSema number (Takes pid at))) phase
+      still_waits object at phase deadline made go granted is = (
+        by,
+        record {
+          line = line;
+          deadline = deadline;
+          is_at = record { line_is = line_is; call_is = made; low = there };
+          seat_is = refl;
+          phase_is = subst (λ (test : Bool). WaitsAs {Out = Unit} deadline test spot.place
+              line.next (want.Unit number) at phase) (sym granted) is;
+        },
+      )
+
+      -- without a deadline
       still_takes : (object : ObjectStates) (at : WaitState Unit) (phase : Phase)
           → line.call ≡ call.Acquire number None → (go : Bool)
           → granted_in program objects object pid (want.Unit number) ≡ go
           → WaitPhase {Out = Unit} go spot.place line.next (want.Unit number) at phase
           → IsPhase program (granted_in program objects object pid) pid
           (In spot (AtSema number (Takes pid at))) phase
-      still_takes object at phase made go granted is = (
-        by,
-        record {
-          line = line;
-          is_at = record { line_is = line_is; call_is = made; low = there };
-          seat_is = refl;
-          phase_is = subst (λ (test : Bool).
-              WaitPhase {Out = Unit} test spot.place line.next (want.Unit number) at phase) (sym
-              granted) is;
-        },
-      )
+      still_takes object at phase made go granted is =
+          still_waits object at phase None made go granted is
 
       -- a wait under way is one at this semaphore
-      waits_here : (at : WaitState Unit) → is_waiting at ≡ true
+      pub waits_here : (at : WaitState Unit) → is_waiting at ≡ true
           → waits_at program (In spot (AtSema number (Takes pid at))) number ≡ true
       waits_here at waits = rw waits (grind (arith, nat_tests))
 
@@ -313,7 +348,7 @@ module _ (program : Program) (is_program : IsProgram program) (covered : IsCover
       wakes count is made phase =
           stutter (Waits count) (In spot (AtSema number (Takes pid Asking))) is made
           (still_takes v.object Asking (m.phase pid) made granted_now refl phase)
-          (waits_here Asking refl) (before (Waits count) is made phase)
+          (waits_here Asking refl) (before (Waits count) is)
 
       -- or its sleep ends with notes, and it leaves
       pub is_noted : (count : ℕ) → v.state pid ≡ In spot (AtSema number (Takes pid (Waits count)))
@@ -355,7 +390,7 @@ module _ (program : Program) (is_program : IsProgram program) (covered : IsCover
               ∙ at_else pid other no_notes m.notes apart))
               values (λ what. ap (λ (f : Want → List ℕ). f what) lines)
               (λ idle. absurd (let w = waits_here (Leaving (fault.Interrupted (v.notes pid))) refl
-              in cc)) (before (Waits count) is made phase) followed
+              in cc)) (before (Waits count) is) followed
 
           same_notes : v.notes pid ≡ m.notes pid
           same_notes = fits.notes pid low
@@ -388,20 +423,20 @@ module _ (program : Program) (is_program : IsProgram program) (covered : IsCover
               line_is waits (ap has_notes (sym same_notes) ∙ some))
 
       -- its stage is idle again
-      abbrev rested : SemaState
+      abbrev pub rested : SemaState
       rested =
           record (sema_state objects v.object number) {
             stages = slice_set (sema_state objects v.object number).stages pid Idle;
           }
 
       -- the stage of the process is idle then
-      rests_here : stage_of rested pid ≡ Idle
+      pub rests_here : stage_of rested pid ≡ Idle
       rests_here =
           get_or-set_same (sema_state objects v.object number).stages pid Idle Idle
           (has_seat program objects v m fits number there pid low)
 
       -- and those of others stay as they were
-      rests_else : (other : ℕ) → other ≢ pid
+      pub rests_else : (other : ℕ) → other ≢ pid
           → stage_of rested other ≡ stage_of (sema_state objects v.object number) other
       rests_else other apart =
           get_or-set_other (sema_state objects v.object number).stages pid other Idle Idle apart
@@ -455,7 +490,7 @@ module _ (program : Program) (is_program : IsProgram program) (covered : IsCover
               (λ other apart. sym (at_else pid other (joined (m.notes pid) no_notes) m.notes apart))
               refl (fits.values number there) (λ sema apart. refl)
               (fits.lines number there) (λ sema apart. refl) (λ waits. rests_here)
-              (before Asking is made phase)
+              (before Asking is)
               (WaitSteps.goes_on program pipes m follows pid line.next no_notes (Is line.next)
               served
               (goes_is program line.next)))
@@ -473,7 +508,7 @@ module _ (program : Program) (is_program : IsProgram program) (covered : IsCover
               (ap (λ (t : SemaState). is_granted (stage_of t pid)) becomes.here) phase)
               (λ other apart. refl) (fits.notes pid low) (λ other apart. refl) refl (λ sema. refl)
               (λ idle. absurd (let w = waits_here (Waits waits.0) refl in cc))
-              (before Asking is made phase) follows)
+              (before Asking is) follows)
             where
               becomes : Becomes program objects v.object
                   (object_after objects v.object (OfSema number (Alone (Collect pid)))) number
@@ -532,7 +567,7 @@ module _ (program : Program) (is_program : IsProgram program) (covered : IsCover
               (λ other apart. refl) (fits.notes pid low) (λ other apart. refl)
               refl (fits.values number there) (λ sema apart. refl)
               (fits.lines number there) (λ sema apart. refl) (λ waits. rests_here)
-              (before (Leaving (fault.Interrupted set)) is made phase) follows)
+              (before (Leaving (fault.Interrupted set)) is) follows)
           by_answer (inr (none, left)) =
               let noted : m.phase pid ≡ Noted spot.place (want.Unit number) set =
               phase ∙ ap (λ (go : Bool).
@@ -560,7 +595,7 @@ module _ (program : Program) (is_program : IsProgram program) (covered : IsCover
               refl (fits.values number there) (λ sema apart. refl)
               (rw (itself (want.Unit number)) (ap (without pid) (fits.lines number there)))
               (λ what apart. rw apart refl) (λ waits. rests_here)
-              (before (Leaving (fault.Interrupted set)) is made phase)
+              (before (Leaving (fault.Interrupted set)) is)
               (WaitSteps.leaves program pipes m follows pid spot.place (want.Unit number) line low
               line_is set (Is line.other) noted (goes_is program line.other)))
 
@@ -588,7 +623,7 @@ module _ (program : Program) (is_program : IsProgram program) (covered : IsCover
           refl (λ sema. refl)
           (λ waits. not_waiting program objects v pipes m fits pid low number there
           (In spot (AtSema number (Takes pid (Returning set out)))) is refl)
-          (before (Returning set out) is made phase)
+          (before (Returning set out) is)
           (WaitSteps.goes_on program pipes m follows pid line.next set (Is line.next) phase
           (goes_is program line.next)))
 
@@ -631,7 +666,8 @@ module _ (program : Program) (is_program : IsProgram program) (covered : IsCover
               (In spot (AtSema number (Tries pid Trying)))
               (arrived program is_program covered given objects pid line.next) has.1.told_is (lead
               ending.Done)
-              (takes_now (Alone (AcquireNow pid)) has.1 has.0 idle before_try (inr made) phase)
+              (takes_now (Alone (AcquireNow pid)) has.1 has.0 idle before_try (inr made)
+              phase).followed
           by_answer (inr none) =
               by_reply program is_program covered given objects v pipes m fits pid low number there
               (Alone (AcquireNow pid)) (UnitFacts.alone reply.NotNow)

@@ -17,8 +17,10 @@ use Rattle.calls.specs.declared.ending.Ending.{Ending}
 use Rattle.calls.specs.declared.ending.Ending.TheVariants as ending
 use Rattle.calls.specs.declared.line.Line.{Line}
 use Rattle.calls.specs.declared.process.Process.{Process}
+use Rattle.calls.specs.declared.process.Timer.{Timer}
 use Rattle.calls.specs.declared.process.Timer.TheVariants as timer
 use Rattle.calls.specs.declared.process.Want.{Want}
+use Rattle.calls.specs.declared.process.Want.TheVariants as want
 use Rattle.calls.specs.Calls.{deadline_of, is_try_read, pipe_of, room_of}
 use Rattle.calls.specs.Lines.{after_ending, has_notes, onto}
 use Rattle.calls.specs.Machine.{system_of}
@@ -33,10 +35,22 @@ use Rattle.explored_calls.proofs.Arrivals.{at_else, at_self}
 use Rattle.explored_calls.proofs.ExplorerSteps.{Reaches, begins_on, moves_on, no, turns_on}
 use Rattle.explored_calls.proofs.ExplorerSteps.{yes}
 use Rattle.explored_calls.proofs.Lists.{at_one, has_become, has_same}
-use Rattle.explored_calls.proofs.Queued.{AreLines, Halt, Queued, Shows, is_for, process_of}
-use Rattle.explored_calls.proofs.Queued.{stands_by}
+use Rattle.explored_calls.proofs.Queued.{AreLines, Halt, Queued, Shows, is_for as is_in_line}
+use Rattle.explored_calls.proofs.Queued.{may_stand as is_for, process_of as process_at}
+use Rattle.explored_calls.proofs.Queued.{stands_by, stands_not, timer_by, unset_not}
 use Rattle.explored_calls.proofs.Queued.Amid.{Blocks, ReadsOn, Wrote}
 use Rattle.explored_calls.proofs.Queued.Halt.{Free, Stays}
+
+-- the process of the position that has this number, if its timer is not set
+abbrev pub process_of : Queued → ℕ → Process
+process_of q pid =
+    record {
+      place = q.place pid;
+      standing = stands_by q.line pid (q.waits pid);
+      timer = timer.Unset;
+      notes = q.notes pid;
+      is_marked = false;
+    }
 
 -- a process that stands in no line before and after it is here now, and stands so; the directions
 -- are these
@@ -64,6 +78,14 @@ process_so q pid place halt notes =
 abbrev pub IsOutside : Halt → Type 0
 IsOutside halt = (what : Want) → is_for what halt ≡ false
 
+-- so its timer is not set
+not_timed : (halt : Halt) → IsOutside halt → timer_by halt ≡ timer.Unset
+not_timed halt out = unset_not (want.Unit 0) halt (out (want.Unit 0))
+
+-- and it stands in no line
+in_no_line : (halt : Halt) → IsOutside halt → (what : Want) → is_in_line what halt ≡ false
+in_no_line halt out what = stands_not what halt (out what)
+
 module _ (count : ℕ) (q : Queued) (pid place : ℕ) (halt : Halt) (notes : NoteSet)
     (pipes : List Direction) (low : pid < count) (before : IsOutside (q.waits pid))
     (after : IsOutside halt) where
@@ -76,10 +98,12 @@ module _ (count : ℕ) (q : Queued) (pid place : ℕ) (halt : Halt) (notes : Not
       }
     where
       by_test : (what : Want) (other : ℕ) (test : Bool) → (other == pid) ≡ test
-          → is_for what (q.waits other) ≡ is_for what (if test then halt else q.waits other)
+          → is_in_line what (q.waits other)
+          ≡ is_in_line what (if test then halt else q.waits other)
       by_test what other true is =
           let same : other ≡ pid = grind (arith, nat_tests) in
-          ap (λ (n : ℕ). is_for what (q.waits n)) same ∙ (before what ∙ sym (after what))
+          ap (λ (n : ℕ). is_in_line what (q.waits n)) same
+          ∙ (in_no_line (q.waits pid) before what ∙ sym (in_no_line halt after what))
       by_test what other false is = refl
 
   -- the position shows that
@@ -92,7 +116,7 @@ module _ (count : ℕ) (q : Queued) (pid place : ℕ) (halt : Halt) (notes : Not
       record {
         is_open = shows.is_open;
         processes = has_same (becomes to at.processes pid) count _ _
-            (has_become at.processes count (process_of q) pid to shows.processes low)
+            (has_become at.processes count (process_at q) pid to shows.processes low)
             (λ other less. by_test other (other == pid) refl);
         values = shows.values;
         pipes = are;
@@ -100,17 +124,22 @@ module _ (count : ℕ) (q : Queued) (pid place : ℕ) (halt : Halt) (notes : Not
       }
     where
       by_test : (other : ℕ) (test : Bool) → (other == pid) ≡ test
-          → ◌≡◌ {A = Process} (if test then to (process_of q pid) else process_of q other)
+          → ◌≡◌ {A = Process} (if test then to (process_at q pid) else process_at q other)
           (record {
             place = if test then place else q.place other;
             standing = stands_by q.line other (if test then halt else q.waits other);
-            timer = timer.Unset;
+            timer = timer_by (if test then halt else q.waits other);
             notes = if test then notes else q.notes other;
             is_marked = false;
           })
       by_test other true same =
           let one : pid ≡ other = grind (arith, nat_tests) in
-          is ∙ ap (λ (n : ℕ). process_so q n place halt notes) one
+          ap (λ (t : Timer). to (record (process_of q pid) { timer = t }))
+          (not_timed (q.waits pid) before)
+          ∙ (is
+          ∙ (ap (λ (n : ℕ). process_so q n place halt notes) one
+          ∙ ap (λ (t : Timer). record (process_so q other place halt notes) { timer = t })
+          (sym (not_timed halt after))))
       by_test other false apart = refl
 
 -- a direction that has become another
@@ -299,7 +328,7 @@ module _ (program : Program) where
               is_open = reaches.shows.is_open;
               processes = has_same _ (procs_of program) _ _
                   (has_become _ (procs_of program) _ pid (ended line ending.Closed)
-                  (has_become at.processes (procs_of program) (process_of q) pid _
+                  (has_become at.processes (procs_of program) (process_at q) pid _
                   reaches.shows.processes is.low) is.low)
                   (λ other less. by_test other (other == pid) refl);
               values = reaches.shows.values;
@@ -311,23 +340,27 @@ module _ (program : Program) where
           where
             noted_one : Process
             noted_one =
-                record (process_of q pid) { notes = joined (q.notes pid) (only ClosedPipe) }
+                record (process_at q pid) { notes = joined (q.notes pid) (only ClosedPipe) }
 
             by_test : (other : ℕ) (test : Bool) → (other == pid) ≡ test
                 → ◌≡◌ {A = Process} (if test then ended line ending.Closed
-                (at_one pid noted_one (process_of q) pid)
-                else at_one pid noted_one (process_of q) other)
+                (at_one pid noted_one (process_at q) pid)
+                else at_one pid noted_one (process_at q) other)
                 (record {
                   place = if test then line.closed else q.place other;
                   standing = stands_by q.line other (if test then Free else q.waits other);
-                  timer = timer.Unset;
+                  timer = timer_by (if test then Free else q.waits other);
                   notes = if test then joined (q.notes pid) (only ClosedPipe) else q.notes other;
                   is_marked = false;
                 })
             by_test other true same =
-                ap (ended line ending.Closed) (at_self pid noted_one (process_of q))
+                ap (ended line ending.Closed) (at_self pid noted_one (process_at q))
+                ∙ ap (λ (t : Timer). ended line ending.Closed (record (process_of q pid) {
+                  timer = t;
+                  notes = joined (q.notes pid) (only ClosedPipe);
+                })) (not_timed (q.waits pid) outside)
             by_test other false apart =
-                at_else pid other noted_one (process_of q)
+                at_else pid other noted_one (process_at q)
                 (let far : other ≢ pid = grind (arith, nat_tests) in far)
 
       -- it stands, and the process goes on
@@ -354,7 +387,7 @@ module _ (program : Program) where
             reaches.shows.processes.each pid low,
             line_is,
             wrote,
-          ) (rw (reaches.shows.processes.each pid low) refl)))
+          ) (rw (reaches.shows.processes.each pid low, wrote) refl)))
           (shows_halted (procs_of program) q pid line.next Free (q.notes pid) _ low
           (λ what. ap (is_for what) wrote) (λ what. refl) at reaches.shows (ended line ending.Done)
           refl _ (becomes_here (stood pid))))
@@ -557,7 +590,7 @@ module _ (program : Program) where
                 reaches.shows.processes.each pid low,
                 line_is,
                 goes,
-              ) (rw (reaches.shows.processes.each pid low) refl))) shows)
+              ) (rw (reaches.shows.processes.each pid low, goes) refl))) shows)
             where
               below : nat_lt pid (procs_of program) ≡ true
               below = grind (arith, nat_tests)
@@ -601,7 +634,7 @@ module _ (program : Program) where
           reaches.shows.processes.each pid low,
           line_is,
           blocks,
-        ) (rw (reaches.shows.processes.each pid low) refl)))
+        ) (rw (reaches.shows.processes.each pid low, blocks) refl)))
         (shows_halted (procs_of program) q pid line.other Free no_notes _ low
         (λ what. ap (is_for what) blocks) (λ what. refl) at reaches.shows (failed line) refl _
         reaches.shows.pipes))

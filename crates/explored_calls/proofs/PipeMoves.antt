@@ -100,12 +100,13 @@ pub record PipeCall (program : Program) (objects : Objects) : Type 0 where
 
 module _ (program : Program) (is_program : IsProgram program) (covered : IsCovered program)
     (given : Spot → Given) (objects : Objects) where
-  -- the explorer follows to this position, in which the directions are as it has them
-  pub record IsFollowedTo (v : View program objects) : Type 0 where
+  -- after a move of this process the explorer follows to this position, in which the directions are
+  -- as it has them
+  pub record IsFollowedBy (m : Running) (pid : ℕ) (v : View program objects) : Type 0 where
     -- the directions of the explorer
     pub pipes : List Direction
     -- it comes to that position
-    pub followed : IsFollowed program objects pipes v
+    pub followed : IsFollowed program objects m pid pipes v
     -- and has the directions so
     pub piped : PipesFit objects program v.object.pipes v.state pipes
 
@@ -129,6 +130,10 @@ module _ (program : Program) (is_program : IsProgram program) (covered : IsCover
       old,
       is,
     }
+
+    -- the explorer follows to this position
+    abbrev pub IsFollowedTo : View program objects → Type 0
+    IsFollowedTo w = IsFollowedBy m pid w
 
     -- the direction of the call
     abbrev pub d : DirectionState
@@ -262,6 +267,7 @@ module _ (program : Program) (is_program : IsProgram program) (covered : IsCover
                 own phases notes_own notes_else values lines
                 (λ sema. ap (λ (st : ProgramState Spot ObjectCall). waits_at program st sema) is)
                 (ap (waits_in_space program) is);
+            others = λ other apart. inl (phases other apart);
           };
           piped = dirs_fit;
         }

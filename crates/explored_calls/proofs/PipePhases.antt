@@ -33,7 +33,7 @@ use Rattle.object_machines.specs.ObjectCalls.ObjectOut.{FromPipe}
 use Rattle.explored_calls.specs.LibraryCalls.{Spot, ended_as}
 use Rattle.explored_calls.proofs.Directions.{IsShown, shown}
 use Rattle.explored_calls.proofs.Lists.{at_one}
-use Rattle.explored_calls.proofs.Queued.{is_for}
+use Rattle.explored_calls.proofs.Queued.{may_stand as is_for}
 use Rattle.explored_calls.proofs.Queued.Amid.{Blocks, ReadsOn, Wrote}
 use Rattle.explored_calls.proofs.Running.{Phase, waits_by}
 use Rattle.explored_calls.proofs.Running.Phase.{Has, Is, Served}

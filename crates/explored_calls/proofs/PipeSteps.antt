@@ -41,16 +41,16 @@ use Rattle.object_machines.specs.ObjectCalls.ObjectOut.{FromAlone, FromChoice, F
 use Rattle.object_machines.specs.ObjectCalls.ObjectCall.{Alone, AtPipe, AtSema, Chooses, InSpace}
 use Rattle.object_machines.specs.ObjectCalls.ObjectReply.{ByPipe, BySema, BySpace, Chosen}
 use Rattle.object_machines.specs.ObjectCalls.ObjectRequest.{AtChoices, OfPipe, OfSema, OfSpace}
-use Rattle.explored_calls.specs.LibraryCalls.{Given, IsCovered, Spot, ended_as, library_of}
-use Rattle.explored_calls.specs.LibraryCalls.{library_program, place_after}
+use Rattle.explored_calls.specs.LibraryCalls.{Given, IsCovered, Spot, library_of}
+use Rattle.explored_calls.specs.LibraryCalls.{library_program, place_for}
 use Rattle.explored_calls.proofs.Arrivals.{arrives}
 use Rattle.explored_calls.proofs.Fits.{Fits, IsPhase, View, granted_in}
-use Rattle.explored_calls.proofs.LibrarySteps.{Can, Fine, IsAway, IsHeardFresh, after_grain}
-use Rattle.explored_calls.proofs.LibrarySteps.{follows_grain, only_asks, only_returns, only_sleeps}
-use Rattle.explored_calls.proofs.LibrarySteps.{only_wakes}
+use Rattle.explored_calls.proofs.LibrarySteps.{Can, Fine, IsAway, IsHeardFresh, IsUntimed}
+use Rattle.explored_calls.proofs.LibrarySteps.{after_grain, follows_grain, only_asks, only_returns}
+use Rattle.explored_calls.proofs.LibrarySteps.{only_sleeps, only_wakes}
 use Rattle.explored_calls.proofs.Lists.{at_one}
 use Rattle.explored_calls.proofs.PipeMoves as moves
-use Rattle.explored_calls.proofs.PipeMoves.{IsFollowedTo, PipeCall}
+use Rattle.explored_calls.proofs.PipeMoves.{IsFollowedBy, PipeCall}
 use Rattle.explored_calls.proofs.PipePhases.{HangPhase, IsAwake, IsQuiet, PipesFit, PutPhase}
 use Rattle.explored_calls.proofs.PipePhases.{ReadPhase, TryPhase, pipes_stay, put_in}
 use Rattle.explored_calls.proofs.ReadMoves as reads
@@ -159,7 +159,7 @@ module _ (program : Program) (is_program : IsProgram program) (covered : IsCover
       spot at does)
   lands_quiet spot at away (Next.Over answer) =
       (arrives program is_program covered given objects (λ what. false) spot.by
-      (place_after (ended_as answer) (slice_get program.lines spot.place) spot.place)).quiet
+      (place_for answer (slice_get program.lines spot.place) spot.place)).quiet
   lands_quiet spot at away (Next.Ask request) = quiet_elsewhere objects spot at away
   lands_quiet spot at away (Next.Sleep rendez number) = quiet_elsewhere objects spot at away
   lands_quiet spot at away (Next.Wake rendez level) = quiet_elsewhere objects spot at away
@@ -202,7 +202,7 @@ module _ (program : Program) (is_program : IsProgram program) (covered : IsCover
     -- the position after it is followed
     abbrev Comes : ProgramState Spot ObjectCall → Grain ObjectRequest ObjectReply → Type 0
     Comes state grain =
-        IsFollowedTo program is_program covered given objects
+        IsFollowedBy program is_program covered given objects m pid
         (after_grain program is_program covered given objects v pipes m follows fits pid low state
         grain)
 
@@ -227,12 +227,13 @@ module _ (program : Program) (is_program : IsProgram program) (covered : IsCover
     pipes_same state away (Drained set) can = refl
 
     elsewhere : (grain : Grain ObjectRequest ObjectReply) → IsAway (v.state pid)
+        → IsUntimed program (v.state pid)
         → May (v.state pid) grain → IsFine grain → IsHeardFresh grain → Comes (v.state pid) grain
-    elsewhere grain away can fine fresh =
+    elsewhere grain away untimed can fine fresh =
         record {
           pipes = pipes;
           followed = follows_grain program is_program covered given objects v pipes m follows fits
-              pid low grain away can fine fresh;
+              pid low grain away untimed can fine fresh;
           piped = subst (λ (ds : List DirectionState). PipesFit objects program ds (at_one pid
               ((library_of program given objects).machine.goes_on (v.state pid)
               (outcome_by grain)) v.state) pipes) (sym (pipes_same (v.state pid) away grain can))
@@ -534,16 +535,17 @@ module _ (program : Program) (is_program : IsProgram program) (covered : IsCover
       hangs seat made HangState.HungAlone is phase grain can fine fresh = absurd phase
 
     -- whatever the process may do is followed
-    pub follows_move : (grain : Grain ObjectRequest ObjectReply) → May (v.state pid) grain
+    pub follows_move : (grain : Grain ObjectRequest ObjectReply)
+        → IsUntimed program (v.state pid) → May (v.state pid) grain
         → IsFine grain → IsHeardFresh grain → Comes (v.state pid) grain
-    follows_move grain can fine fresh =
+    follows_move grain untimed can fine fresh =
         by_state (v.state pid) refl (fits.phases pid low) can
       where
         away : (state : ProgramState Spot ObjectCall) → v.state pid ≡ state → IsAway state
             → May state grain → Comes state grain
         away state is gone can =
             subst (λ (st : ProgramState Spot ObjectCall). Comes st grain) is
-            (elsewhere grain (subst IsAway (sym is) gone)
+            (elsewhere grain (subst IsAway (sym is) gone) untimed
             (subst (λ (st : ProgramState Spot ObjectCall). May st grain) (sym is) can) fine fresh)
 
         by_state : (state : ProgramState Spot ObjectCall) → v.state pid ≡ state

@@ -166,7 +166,7 @@ module _ (program : Program) (is_program : IsProgram program) (covered : IsCover
       moves.moved_to program is_program covered given objects its object state notes
 
   abbrev Followed : View program objects → Type 0
-  Followed now = moves.IsFollowedTo program is_program covered given objects now
+  Followed now = moves.IsFollowedTo program is_program covered given objects its now
 
   -- one more writer is to be woken
   abbrev more : ℕ → Bool

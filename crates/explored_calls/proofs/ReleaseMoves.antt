@@ -42,7 +42,8 @@ use Rattle.explored_calls.specs.LibraryCalls.{Given, IsCovered, Spot, library_pr
 use Rattle.explored_calls.specs.LibraryCalls.{place_after}
 use Rattle.explored_calls.proofs.Arrivals.{arrived, arrives, at_else, at_self, becomes_after, leads}
 use Rattle.explored_calls.proofs.Arrivals.{own_arrives}
-use Rattle.explored_calls.proofs.Fits.{Becomes, Fits, GivesPhase, IsFollowed, IsPhase, View}
+use Rattle.explored_calls.proofs.Fits.{Becomes, Fits, GivesPhase, GoesAlong, IsFollowed, IsPhase}
+use Rattle.explored_calls.proofs.Fits.{View}
 use Rattle.explored_calls.proofs.Fits.{becomes_itself, fits_next, granted_in, phase_same}
 use Rattle.explored_calls.proofs.Fits.{sema_there, stepped, waits_at, waits_in_space}
 use Rattle.explored_calls.proofs.LineLemmas.{stands_taken}
@@ -67,7 +68,7 @@ module _ (program : Program) (is_program : IsProgram program) (covered : IsCover
       (low : pid < procs_of program) (number : ℕ) (there : number < length program.values) where
     -- the explorer follows to this position
     abbrev Followed : View program objects → Type 0
-    Followed w = IsFollowed program objects pipes w
+    Followed w = IsFollowed program objects m pid pipes w
 
     -- where a process is after its call was told so
     abbrev gone : ProgramState Spot ObjectCall → Outcome ObjectReply → ProgramState Spot ObjectCall
@@ -454,7 +455,21 @@ module _ (program : Program) (is_program : IsProgram program) (covered : IsCover
                       idle_others = λ other less apart waits. idle_still other less
                           (fits.idle other number less there waits) (out_of_line other less waits);
                     });
+                others = λ other apart. subst (λ (p : Phase). GoesAlong program objects
+                    (m.phase other) p)
+                    (sym (at_else pid other goes_as (λ other.
+                    if stands_in (take (slice_index m.values number + count)
+                    (m.line (want.Unit number))) other
+                    then served_phase program (m.phase other) else m.phase other) apart))
+                    (along (stands_in (take (slice_index m.values number + count)
+                    (m.line (want.Unit number))) other));
               }
+            where
+              along : {other : ℕ} → (first : Bool)
+                  → GoesAlong program objects (m.phase other)
+                  (if first then served_phase program (m.phase other) else m.phase other)
+              along true = inr refl
+              along false = inl refl
 
         -- it is taken, or refused
         pub releases_so : v.state pid ≡ In spot (AtSema number (Gives count Releasing))

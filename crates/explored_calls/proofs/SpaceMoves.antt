@@ -1,6 +1,6 @@
 -- The moves of a rendezvous are followed by the explorer.
 use Rattle.std.proofs.Common.{◌≡◌, ◌≢◌, ◌⊎◌, inl, inr, ℕ, ◌+◌, ◌<◌, ◌==◌, Bool, if◌then◌else◌}
-use Rattle.std.proofs.Common.{true, false, Some, None, List, [], ◌∷◌, ◌++◌, length, take}
+use Rattle.std.proofs.Common.{true, false, Option, Some, None, List, [], ◌∷◌, ◌++◌, length, take}
 use Rattle.std.proofs.Common.{drop, refl, sym, ap, ◌∙◌, subst, arith, set, Ok, Err}
 use Rattle.std.specs.Prelude.{slice_get}
 use Rattle.std.proofs.lemmas.Bool.Decides.{nat_tests}
@@ -28,6 +28,7 @@ use Rattle.calls.specs.declared.call.Call.TheVariants as call
 use Rattle.calls.specs.declared.ending.Ending.{Ending}
 use Rattle.calls.specs.declared.ending.Ending.TheVariants as ending
 use Rattle.calls.specs.declared.line.Line.{Line}
+use Rattle.calls.specs.declared.process.Timer.TheVariants as timer
 use Rattle.calls.specs.declared.process.Want.{Want}
 use Rattle.calls.specs.declared.process.Want.TheVariants as want
 use Rattle.calls.specs.Lines.{after_ending}
@@ -46,17 +47,18 @@ use Rattle.object_machines.specs.ObjectCalls.ObjectRequest.{OfSpace}
 use Rattle.object_machines.specs.ObjectEnds.{is_space_unworn}
 use Rattle.explored_calls.specs.LibraryCalls.{IsCovered, Given, Spot, library_program, place_after}
 use Rattle.explored_calls.proofs.Arrivals.{arrived, at_else, at_self, leads, own_arrives}
-use Rattle.explored_calls.proofs.Fits.{Fits, IsFollowed, IsPhase, MeetPhase, View, granted_in}
+use Rattle.explored_calls.proofs.Fits.{Fits, GoesAlong, IsFollowed, IsPhase, MeetPhase, MeetsAs}
+use Rattle.explored_calls.proofs.Fits.{IsStepped, View, granted_in}
 use Rattle.explored_calls.proofs.Fits.{is_meeting, line_of, stepped, waits_at, waits_in_space}
 use Rattle.explored_calls.proofs.LineLemmas.{left_alone, stands_taken}
 use Rattle.explored_calls.proofs.Lists.{at_one}
 use Rattle.explored_calls.proofs.Queued.{is_for, itself}
 use Rattle.explored_calls.proofs.Running.{Follows, Phase, Running, in_line_so, joined_none}
-use Rattle.explored_calls.proofs.Running.{waits_by}
+use Rattle.explored_calls.proofs.Running.{timer_in, waits_by}
 use Rattle.explored_calls.proofs.Running.Phase.{InLine, Is, Noted, Served}
 use Rattle.explored_calls.proofs.RunningSteps
 use Rattle.explored_calls.proofs.RunningSteps.{Begins, goes, goes_is, goes_served, leaving, pending}
-use Rattle.explored_calls.proofs.RunningSteps.{served_phase, serving, waiting, woken}
+use Rattle.explored_calls.proofs.RunningSteps.{phase_for, served_phase, serving, waiting_by, woken}
 use Rattle.explored_calls.proofs.ServedLemmas.{for_partner, served_by, stands_for}
 use Rattle.explored_calls.proofs.SpaceFacts as facts
 use Rattle.explored_calls.proofs.SpaceFacts.{FindsNobody, MeetsWaiter, WaitsAlone, WasMet, WasUnmet}
@@ -73,10 +75,11 @@ module _ (program : Program) (is_program : IsProgram program) (covered : IsCover
       program pipes m)
       (fits : Fits program objects v m) (pid : ℕ) (low : pid < procs_of program) (spot : Spot)
       (by : spot.by ≡ pid) (line : Line) (line_is : slice_get program.lines spot.place ≡ Some line)
-      (offered : Offered) (made : line.call ≡ call.Rendezvous offered.tag.0 None) where
+      (offered : Offered) (deadline : Option ℕ)
+      (made : line.call ≡ call.Rendezvous offered.tag.0 deadline) where
     -- the explorer comes to this position
     abbrev Followed : View program objects → Type 0
-    Followed w = IsFollowed program objects pipes w
+    Followed w = IsFollowed program objects m pid pipes w
 
     -- a state of the rendezvous
     abbrev meets_at : MeetState → ProgramState Spot ObjectCall
@@ -111,12 +114,12 @@ module _ (program : Program) (is_program : IsProgram program) (covered : IsCover
         (gone state (Outcome.Replied (BySpace (answer_to v.object.space request)))) (v.notes pid)
 
     -- the position where the space is this, and the process is here
-    abbrev moved_to : List Place → ProgramState Spot ObjectCall → NoteSet → View program objects
+    abbrev pub moved_to : List Place → ProgramState Spot ObjectCall → NoteSet → View program objects
     moved_to places state notes =
         stepped program objects v pid (with_space v.object places) state notes
 
     -- the process is a member of the space
-    member_low : pid < length v.object.space
+    pub member_low : pid < length v.object.space
     member_low = let room = fits.space in omega (arith, low)
 
     -- where an answer leads the process
@@ -128,6 +131,22 @@ module _ (program : Program) (is_program : IsProgram program) (covered : IsCover
     lead ends = leads program is_program covered given objects spot pid line ends by line_is
 
     -- a reply that is known, and what it leaves
+    reply_at : (P : View program objects → Type 0) (request : GroupCall) (told : GroupReply)
+        (places : List Place) (state now : ProgramState Spot ObjectCall)
+        → answer_to v.object.space request ≡ told
+        → places_after v.object.space request ≡ places
+        → gone state (Outcome.Replied (BySpace told)) ≡ now
+        → P (moved_to places now (v.notes pid))
+        → P (heard request state)
+    reply_at P request told places state now told_is after_is is followed =
+        subst (λ (answer : GroupReply).
+        P (stepped program objects v pid (object_after objects v.object (OfSpace request))
+        (gone state (Outcome.Replied (BySpace answer))) (v.notes pid))) (sym told_is)
+        (subst (λ (left : List Place). P (moved_to left
+        (gone state (Outcome.Replied (BySpace told))) (v.notes pid))) (sym after_is)
+        (subst (λ (state : ProgramState Spot ObjectCall).
+        P (moved_to places state (v.notes pid))) (sym is) followed))
+
     by_reply : (request : GroupCall) (told : GroupReply) (places : List Place)
         (state now : ProgramState Spot ObjectCall)
         → answer_to v.object.space request ≡ told
@@ -136,13 +155,8 @@ module _ (program : Program) (is_program : IsProgram program) (covered : IsCover
         → Followed (moved_to places now (v.notes pid))
         → Followed (heard request state)
     by_reply request told places state now told_is after_is is followed =
-        subst (λ (answer : GroupReply).
-        Followed (stepped program objects v pid (object_after objects v.object (OfSpace request))
-        (gone state (Outcome.Replied (BySpace answer))) (v.notes pid))) (sym told_is)
-        (subst (λ (left : List Place). Followed (moved_to left
-        (gone state (Outcome.Replied (BySpace told))) (v.notes pid))) (sym after_is)
-        (subst (λ (state : ProgramState Spot ObjectCall).
-        Followed (moved_to places state (v.notes pid))) (sym is) followed))
+        reply_at (IsFollowed program objects m pid pipes) request told places state now told_is
+        after_is is followed
 
     -- a move that changes nothing of the others
     by_alone : (next : Running) (places : List Place) (state : ProgramState Spot ObjectCall)
@@ -155,27 +169,58 @@ module _ (program : Program) (is_program : IsProgram program) (covered : IsCover
           follows = followed;
           fits = fits_space program objects v m next pid places state notes fits low
               (owes_alone program objects v m next pid places state notes fits owes);
+          others = λ other far. inl (owes.phases_else other far);
+        }
+
+    -- the same, and its timer is as it was
+    pub by_timed : (next : Running) (places : List Place) (state : ProgramState Spot ObjectCall)
+        (notes : NoteSet) → Follows program pipes next
+        → OwesAlone program objects v m next pid places state notes
+        → timer_in (next.phase pid) ≡ timer_in (m.phase pid)
+        → IsStepped program objects m pid pipes (moved_to places state notes)
+    by_timed next places state notes followed owes timer =
+        record {
+          followed = record {
+            next = next;
+            follows = followed;
+            fits = fits_space program objects v m next pid places state notes fits low
+                (owes_alone program objects v m next pid places state notes fits owes);
+            others = λ other far. inl (owes.phases_else other far);
+          };
+          timer = timer;
         }
 
     -- its phase is one of a rendezvous
-    still_meets : (object : ObjectStates) (at : MeetState) (phase : Phase) (met : Bool)
+    pub still_meets : (object : ObjectStates) (at : MeetState) (phase : Phase) (met : Bool)
         → granted_in program objects object pid (want.Partner offered.tag.0) ≡ met
-        → IsSo met at phase
+        → MeetsAs deadline met spot.place line.next (want.Partner offered.tag.0) at phase
         → IsPhase program (granted_in program objects object pid) pid (meets_at at) phase
     still_meets object at phase met granted is = (
       by,
       record {
         line = line;
         line_is = line_is;
+        deadline = deadline;
         call_is = made;
         member_is = refl;
-        phase_is = subst (λ (test : Bool). MeetPhase test spot.place line.next
+        phase_is = subst (λ (test : Bool). MeetsAs deadline test spot.place line.next
             (want.Partner offered.tag.0) at phase) (sym granted) is;
       },
     )
 
+    -- the same of one without a deadline
+    still_plain : deadline ≡ None → (object : ObjectStates) (at : MeetState) (phase : Phase)
+        (met : Bool)
+        → granted_in program objects object pid (want.Partner offered.tag.0) ≡ met
+        → IsSo met at phase
+        → IsPhase program (granted_in program objects object pid) pid (meets_at at) phase
+    still_plain none object at phase met granted is =
+        still_meets object at phase met granted
+        (subst (λ (d : Option ℕ). MeetsAs d met spot.place line.next
+        (want.Partner offered.tag.0) at phase) (sym none) is)
+
     -- it waits for no unit
-    no_unit : (at : MeetState) → v.state pid ≡ meets_at at → (sema : ℕ)
+    pub no_unit : (at : MeetState) → v.state pid ≡ meets_at at → (sema : ℕ)
         → waits_at program (v.state pid) sema ≡ false
     no_unit at is sema =
         ap (λ (state : ProgramState Spot ObjectCall). waits_at program state sema) is
@@ -183,17 +228,17 @@ module _ (program : Program) (is_program : IsProgram program) (covered : IsCover
     -- ---- its sleep
 
     -- it ends well, and the process asks again
-    pub wakes : (count : ℕ) → v.state pid ≡ meets_at (Calls (Waits count))
+    pub wakes : deadline ≡ None → (count : ℕ) → v.state pid ≡ meets_at (Calls (Waits count))
         → IsSo met_now (Calls (Waits count)) (m.phase pid)
         → Followed (stepped program objects v pid v.object
         (gone (meets_at (Calls (Waits count))) (Outcome.Slept (Ok tt))) (v.notes pid))
-    wakes count is phase =
+    wakes none count is phase =
         by_alone m v.object.space (meets_at (Calls Asking)) (v.notes pid) follows
         (record {
           long = refl;
           apart = fits.apart;
           places_else = λ other far. refl;
-          own = still_meets v.object (Calls Asking) (m.phase pid) met_now refl phase;
+          own = still_plain none v.object (Calls Asking) (m.phase pid) met_now refl phase;
           phases_else = λ other far. refl;
           notes_own = fits.notes pid low;
           notes_else = λ other far. refl;
@@ -205,13 +250,13 @@ module _ (program : Program) (is_program : IsProgram program) (covered : IsCover
         })
 
     -- or it ends with notes, and the process leaves
-    pub is_noted : (count : ℕ) → v.state pid ≡ meets_at (Calls (Waits count))
+    pub is_noted : deadline ≡ None → (count : ℕ) → v.state pid ≡ meets_at (Calls (Waits count))
         → IsSo met_now (Calls (Waits count)) (m.phase pid)
         → has_notes (v.notes pid) ≡ true
         → Followed (stepped program objects v pid v.object
         (gone (meets_at (Calls (Waits count)))
         (Outcome.Slept (Err (fault.Interrupted (v.notes pid))))) no_notes)
-    is_noted count is phase some = by_met met_now refl
+    is_noted none count is phase some = by_met met_now refl
       where
         same_notes : v.notes pid ≡ m.notes pid
         same_notes = fits.notes pid low
@@ -229,7 +274,8 @@ module _ (program : Program) (is_program : IsProgram program) (covered : IsCover
               long = refl;
               apart = fits.apart;
               places_else = λ other far. refl;
-              own = still_meets v.object (Calls (Leaving (fault.Interrupted (v.notes pid))))
+              own = still_plain none v.object
+                  (Calls (Leaving (fault.Interrupted (v.notes pid))))
                   (next.phase pid) met granted
                   (subst (λ (p : Phase).
                   IsSo met (Calls (Leaving (fault.Interrupted (v.notes pid)))) p)
@@ -273,33 +319,33 @@ module _ (program : Program) (is_program : IsProgram program) (covered : IsCover
     -- ---- where its call is over
 
     -- it is out of the space
-    abbrev rested : List Place
+    abbrev pub rested : List Place
     rested = put v.object.space pid Idle (place_of v.object.space pid).meetings
 
     -- its own state is idle then
-    rests_here : (place_of rested pid).state ≡ Idle
+    pub rests_here : (place_of rested pid).state ≡ Idle
     rests_here =
         state_here v.object.space pid member_low Idle (place_of v.object.space pid).meetings
 
     -- and those of others stay as they were
-    rests_else : (other : ℕ) → other ≢ pid
+    pub rests_else : (other : ℕ) → other ≢ pid
         → (place_of rested other).state ≡ (place_of v.object.space other).state
     rests_else other far =
         state_else v.object.space pid member_low Idle (place_of v.object.space pid).meetings other
         far
 
     -- the space has as many members as before
-    rests_long : length rested ≡ length v.object.space
+    pub rests_long : length rested ≡ length v.object.space
     rests_long = length-set v.object.space pid _
 
     -- and of each tag one waits at most
-    rests_apart : facts.AtMostOne rested
+    pub rests_apart : facts.AtMostOne rested
     rests_apart =
         one_waits v.object.space pid member_low Idle (place_of v.object.space pid).meetings
         fits.apart (λ tag waits. absurd cc)
 
     -- one that was met leaves no line
-    rests_met : met_now ≡ true → (tag : ℕ)
+    pub rests_met : met_now ≡ true → (tag : ℕ)
         → m.line (want.Partner tag) ≡ line_of (waiter_of rested tag)
     rests_met met tag =
         fits.tags tag
@@ -308,7 +354,7 @@ module _ (program : Program) (is_program : IsProgram program) (covered : IsCover
         (sym (met_waits (place_of v.object.space pid).state met tag))))
 
     -- who waits alone with its tag is met, or leaves
-    tags_gone : (one count : ℕ) (state : CallState) (one_low : one < length v.object.space)
+    pub tags_gone : (one count : ℕ) (state : CallState) (one_low : one < length v.object.space)
         → waits_in v.object.space offered.tag.0 one ≡ true
         → ((tag : ℕ) → waits_with tag state ≡ false)
         → (rest : List ℕ) → rest ≡ [] → (tag : ℕ)
@@ -333,10 +379,10 @@ module _ (program : Program) (is_program : IsProgram program) (covered : IsCover
             (no_more tag ∙ sym (one_tag _ offered.tag.0 tag waits apart))))
 
     -- it asks after its sleep
-    pub asks_again : v.state pid ≡ meets_at (Calls Asking)
+    pub asks_again : deadline ≡ None → v.state pid ≡ meets_at (Calls Asking)
         → IsSo met_now (Calls Asking) (m.phase pid)
         → Followed (heard (Collect pid) (meets_at (Calls Asking)))
-    asks_again is phase = by_answer (facts.collects v.object.space pid member_low)
+    asks_again none is phase = by_answer (facts.collects v.object.space pid member_low)
       where
         by_answer : WasMet v.object.space pid (Collect pid)
             ⊎ WasUnmet v.object.space pid (Collect pid)
@@ -381,7 +427,7 @@ module _ (program : Program) (is_program : IsProgram program) (covered : IsCover
               long = refl;
               apart = fits.apart;
               places_else = λ other far. refl;
-              own = still_meets v.object
+              own = still_plain none v.object
                   (Calls (Waits (place_of v.object.space pid).meetings)) (m.phase pid) met_now refl
                   phase;
               phases_else = λ other far. refl;
@@ -405,11 +451,11 @@ module _ (program : Program) (is_program : IsProgram program) (covered : IsCover
         ∙ itself (want.Partner offered.tag.0))))
 
     -- it leaves, with the value of a partner or without one
-    pub leaves_so : (set : NoteSet)
+    pub leaves_so : deadline ≡ None → (set : NoteSet)
         → v.state pid ≡ meets_at (Calls (Leaving (fault.Interrupted set)))
         → IsSo met_now (Calls (Leaving (fault.Interrupted set))) (m.phase pid)
         → Followed (heard (Leave pid) (meets_at (Calls (Leaving (fault.Interrupted set)))))
-    leaves_so set is phase = by_answer (facts.leaves v.object.space pid member_low)
+    leaves_so none set is phase = by_answer (facts.leaves v.object.space pid member_low)
       where
         by_answer : WasMet v.object.space pid (Leave pid)
             ⊎ WasUnmet v.object.space pid (Leave pid) reply.Gone rested
@@ -426,7 +472,8 @@ module _ (program : Program) (is_program : IsProgram program) (covered : IsCover
               long = rests_long;
               apart = rests_apart;
               places_else = rests_else;
-              own = still_meets (with_space v.object rested) (Calls (Returning set met.given))
+              own = still_plain none (with_space v.object rested)
+                  (Calls (Returning set met.given))
                   (m.phase pid) _ refl served;
               phases_else = λ other far. refl;
               notes_own = fits.notes pid low;
@@ -534,14 +581,15 @@ module _ (program : Program) (is_program : IsProgram program) (covered : IsCover
 
       -- it waits, where nobody waits with its tag
       waits_now : (count : ℕ) → waiter_of v.object.space offered.tag.0 ≡ None
-          → Followed (moved_to (put v.object.space pid (Waiting offered.tag offered.value) count)
+          → IsStepped program objects m pid pipes
+          (moved_to (put v.object.space pid (Waiting offered.tag offered.value) count)
           (meets_at (Calls (Waits count))) (v.notes pid))
       waits_now count none =
-          by_alone (waiting m pid spot.place (want.Partner offered.tag.0))
+          by_timed (waiting_by m pid spot.place (want.Partner offered.tag.0) deadline)
           (put v.object.space pid (Waiting offered.tag offered.value) count)
           (meets_at (Calls (Waits count))) (v.notes pid)
           (RunningSteps.waits_for_partner program pipes m follows pid spot.place line begins
-          offered.tag.0 made (fits.tags offered.tag.0 ∙ ap line_of none))
+          offered.tag.0 deadline made (fits.tags offered.tag.0 ∙ ap line_of none))
           (record {
             long = length-set v.object.space pid _;
             apart = one_waits v.object.space pid member_low (Waiting offered.tag offered.value)
@@ -552,12 +600,14 @@ module _ (program : Program) (is_program : IsProgram program) (covered : IsCover
                 (with_space v.object
                 (put v.object.space pid (Waiting offered.tag offered.value) count))
                 (Calls (Waits count))
-                (at_one pid (InLine spot.place (want.Partner offered.tag.0)) m.phase pid) false
+                (at_one pid (phase_for deadline spot.place (want.Partner offered.tag.0)) m.phase
+                pid) false
                 (ap is_met (state_here v.object.space pid member_low
                 (Waiting offered.tag offered.value) count))
-                (at_self pid (InLine spot.place (want.Partner offered.tag.0)) m.phase);
+                (waits_so deadline _ (at_self pid
+                (phase_for deadline spot.place (want.Partner offered.tag.0)) m.phase));
             phases_else = λ other far. sym (at_else pid other
-                (InLine spot.place (want.Partner offered.tag.0)) m.phase far);
+                (phase_for deadline spot.place (want.Partner offered.tag.0)) m.phase far);
             notes_own = fits.notes pid low;
             notes_else = λ other far. refl;
             values = refl;
@@ -566,7 +616,21 @@ module _ (program : Program) (is_program : IsProgram program) (covered : IsCover
             no_unit = no_unit (Calls Begun) is;
             out_own = λ out. absurd cc;
           })
+          (ap timer_in (at_self pid (phase_for deadline spot.place
+          (want.Partner offered.tag.0)) m.phase) ∙ (unset deadline ∙ sym (ap timer_in phase)))
         where
+          unset : (until : Option ℕ)
+              → timer_in (phase_for until spot.place (want.Partner offered.tag.0)) ≡ timer.Unset
+          unset None = refl
+          unset (Some moment) = refl
+
+          waits_so : (until : Option ℕ) (phase : Phase)
+              → phase ≡ phase_for until spot.place (want.Partner offered.tag.0)
+              → MeetsAs until false spot.place line.next (want.Partner offered.tag.0)
+              (Calls (Waits count)) phase
+          waits_so None phase same = same
+          waits_so (Some moment) phase same = inl same
+
           alone : (tag : ℕ) → waits_with tag (Waiting offered.tag offered.value) ≡ true
               → waiter_of v.object.space tag ≡ None
           alone tag waits =
@@ -723,54 +787,70 @@ module _ (program : Program) (is_program : IsProgram program) (covered : IsCover
             goes (serving program m (want.Partner offered.tag.0) 1) pid (Served line.next no_notes)
 
         -- so a call that finds its partner is followed
-        meets_now : Followed (moved_to met_places (meets_at (WakesPartner partner_found))
-            (v.notes pid))
+        meets_now : IsStepped program objects m pid pipes
+            (moved_to met_places (meets_at (WakesPartner partner_found)) (v.notes pid))
         meets_now =
             record {
-              next = next;
-              follows = RunningSteps.meets program pipes m follows pid spot.place line begins
-                  offered.tag.0 found.waiter [] (Served line.next no_notes)
-                  (goes_served program line.next) made line_now;
-              fits = fits_space program objects v m next pid met_places
-                  (meets_at (WakesPartner partner_found)) (v.notes pid) fits low
-                  (record {
-                    long = length-set v.object.space found.waiter _;
-                    apart = one_waits v.object.space found.waiter waiter_is.0 (Met offered.value)
-                        meetings fits.apart (λ tag waits. absurd cc);
-                    own = still_meets (with_space v.object met_places)
-                        (WakesPartner partner_found) (next.phase pid) _ refl
-                        (at_self pid (Served line.next no_notes) served);
-                    others = λ other less far. subst (IsPhase program
-                        (granted_in program objects (with_space v.object met_places) other) other
-                        (v.state other))
-                        (sym (at_else pid other (Served line.next no_notes) served far))
-                        (others_now other less);
-                    notes_own = fits.notes pid low;
-                    notes_others = λ other far. refl;
-                    values = refl;
-                    units = λ sema. refl;
-                    tags = tags_gone found.waiter meetings (Met offered.value) waiter_is.0
-                        waiter_is.1 (λ tag. refl)
-                        (drop 1 (m.line (want.Partner offered.tag.0))) (ap (drop 1) line_now);
-                    no_unit = no_unit (Calls Begun) is;
-                    out_own = λ out. state_else v.object.space found.waiter waiter_is.0
-                        (Met offered.value) meetings pid not_itself ∙ idle_now;
-                    out_others = λ other less far out. out_now other less out;
-                  });
+              followed = record {
+                next = next;
+                follows = RunningSteps.meets program pipes m follows pid spot.place line begins
+                    offered.tag.0 deadline found.waiter [] (Served line.next no_notes)
+                    (goes_served program line.next) made line_now;
+                fits = fits_space program objects v m next pid met_places
+                    (meets_at (WakesPartner partner_found)) (v.notes pid) fits low
+                    (record {
+                      long = length-set v.object.space found.waiter _;
+                      apart = one_waits v.object.space found.waiter waiter_is.0 (Met offered.value)
+                          meetings fits.apart (λ tag waits. absurd cc);
+                      own = still_meets (with_space v.object met_places)
+                          (WakesPartner partner_found) (next.phase pid) _ refl
+                          (at_self pid (Served line.next no_notes) served);
+                      others = λ other less far. subst (IsPhase program
+                          (granted_in program objects (with_space v.object met_places) other) other
+                          (v.state other))
+                          (sym (at_else pid other (Served line.next no_notes) served far))
+                          (others_now other less);
+                      notes_own = fits.notes pid low;
+                      notes_others = λ other far. refl;
+                      values = refl;
+                      units = λ sema. refl;
+                      tags = tags_gone found.waiter meetings (Met offered.value) waiter_is.0
+                          waiter_is.1 (λ tag. refl)
+                          (drop 1 (m.line (want.Partner offered.tag.0))) (ap (drop 1) line_now);
+                      no_unit = no_unit (Calls Begun) is;
+                      out_own = λ out. state_else v.object.space found.waiter waiter_is.0
+                          (Met offered.value) meetings pid not_itself ∙ idle_now;
+                      out_others = λ other less far out. out_now other less out;
+                    });
+                others = λ other far. subst (λ (p : Phase). GoesAlong program objects
+                    (m.phase other) p)
+                    (sym (at_else pid other (Served line.next no_notes) served far))
+                    (along (is_first other));
+              };
+              timer = ap timer_in (at_self pid (Served line.next no_notes) served)
+                  ∙ sym (ap timer_in phase);
             }
+          where
+            along : {other : ℕ} → (first : Bool)
+                → GoesAlong program objects (m.phase other)
+                (if first then served_phase program (m.phase other) else m.phase other)
+            along true = inr refl
+            along false = inl refl
 
       -- it meets one, or waits
       pub begins_meeting :
           is_space_unworn (answer_to v.object.space (Call pid offered.tag offered.value)) ≡ true
-          → Followed (heard (Call pid offered.tag offered.value) (meets_at (Calls Begun)))
+          → IsStepped program objects m pid pipes
+          (heard (Call pid offered.tag offered.value) (meets_at (Calls Begun)))
       begins_meeting fresh =
           by_answer (facts.calls v.object.space pid member_low offered.tag offered.value idle_now)
         where
           by_answer : MeetsWaiter v.object.space pid offered.tag offered.value
               ⊎ FindsNobody v.object.space pid offered.tag offered.value
-              → Followed (heard (Call pid offered.tag offered.value) (meets_at (Calls Begun)))
+              → IsStepped program objects m pid pipes
+              (heard (Call pid offered.tag offered.value) (meets_at (Calls Begun)))
           by_answer (inl found) =
-              by_reply (Call pid offered.tag offered.value)
+              reply_at (IsStepped program objects m pid pipes) (Call pid offered.tag offered.value)
               (answer_to_call v.object.space pid (Some found.waiter)) (met_places found)
               (meets_at (Calls Begun)) (meets_at (WakesPartner (partner_found found)))
               found.told_is found.after_is refl (meets_now found)
@@ -779,9 +859,11 @@ module _ (program : Program) (is_program : IsProgram program) (covered : IsCover
               by_told : ((count : ℕ)
                   × WaitsAlone v.object.space pid offered.tag offered.value count)
                   ⊎ (answer_to v.object.space (Call pid offered.tag offered.value) ≡ reply.Worn)
-                  → Followed (heard (Call pid offered.tag offered.value) (meets_at (Calls Begun)))
+                  → IsStepped program objects m pid pipes
+                  (heard (Call pid offered.tag offered.value) (meets_at (Calls Begun)))
               by_told (inl (count, waits)) =
-                  by_reply (Call pid offered.tag offered.value) (reply.Wait count)
+                  reply_at (IsStepped program objects m pid pipes) (Call pid offered.tag
+                  offered.value) (reply.Wait count)
                   (put v.object.space pid (Waiting offered.tag offered.value) count)
                   (meets_at (Calls Begun)) (meets_at (Calls (Waits count))) waits.told_is
                   waits.after_is refl (waits_now count nobody.none)

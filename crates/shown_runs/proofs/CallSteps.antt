@@ -53,7 +53,7 @@ use Rattle.explored_calls.specs.LibraryCalls.{AreItsObjects, Spot}
 use Rattle.explored_calls.specs.LibraryCalls.{place_after, spot_in, starts_from}
 use Rattle.explored_calls.specs.LibraryCalls.{Given}
 use Rattle.explored_calls.proofs.Lists.{at_one}
-use Rattle.explored_calls.proofs.Queued.{Halt, Queued, gives_up, is_for, itself, joins}
+use Rattle.explored_calls.proofs.Queued.{Halt, Queued, gives_up, is_for, itself}
 use Rattle.explored_calls.proofs.UnitFacts
 use Rattle.explored_calls.proofs.UnitFacts.{Answered}
 use Rattle.explored_calls.proofs.Queued.Halt.{For, Free}
@@ -69,6 +69,7 @@ use Rattle.shown_runs.proofs.Quiet.{Rests}
 use Rattle.shown_runs.proofs.Quiet.{SameSeat, Stands, StandsBy, frame_far, rendez, rests_own}
 use Rattle.shown_runs.proofs.Quiet.{rests_still, sema_at}
 use Rattle.shown_runs.proofs.QuietSteps.{ComesQuiet, SameFor, own_step}
+use Rattle.shown_runs.proofs.WellLines.{joins}
 
 -- ---- the lines of a program
 

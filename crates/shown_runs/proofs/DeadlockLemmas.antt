@@ -53,10 +53,9 @@ use Rattle.timed_machines.specs.TimedObjects.{TimedObjectCall}
 use Rattle.explored_calls.specs.LibraryCalls.{AreItsObjects, Given, HaveEnds, Spot, TicksSo}
 use Rattle.explored_calls.specs.LibraryCalls.{is_at_head, is_served_in, spot_in}
 use Rattle.explored_calls.specs.TimedLibrary.{timed_library_of, timed_program}
-use Rattle.explored_calls.proofs.TickMoves.{is_tick}
 use Rattle.explored_calls.proofs.Queued.{Halt, Queued, Shows}
 use Rattle.explored_calls.proofs.Queued.Amid.{Blocks, ReadsOn, Wrote}
-use Rattle.explored_calls.proofs.Queued.Halt.{For, Free, Stays}
+use Rattle.explored_calls.proofs.Queued.Halt.{For, Free, Stays, Times}
 use Rattle.shown_runs.specs.ShownRuns.{AreFewSteps, AreShownCalls, Deadlocks, NoneIsStuck}
 use Rattle.shown_runs.specs.ShownRuns.{offered_at, rendez_at, spot_of, with_choices}
 use Rattle.shown_runs.proofs.Plain.{arrived, plain_of, plain_program}
@@ -75,6 +74,7 @@ use Rattle.shown_runs.proofs.StuckLemmas.{HowStopped, Starves, each_stopped, non
 use Rattle.shown_runs.proofs.StuckLemmas.{one_starves}
 use Rattle.shown_runs.proofs.StuckLemmas.HowStopped.{IsBlocked, IsInLine, IsOver, IsTicking}
 use Rattle.shown_runs.proofs.WellLines.{HasEnds, IsWell}
+use Rattle.shown_runs.proofs.Plain.{is_clocked}
 
 module _ (program : Program) (given : Spot → Given) (objects : Objects)
     (are : AreItsObjects program objects) (q : Queued) (most : ℕ)
@@ -94,7 +94,7 @@ module _ (program : Program) (given : Spot → Given) (objects : Objects)
     made : ObjectCall
     line : Line
     line_is : slice_get program.lines (q.place pid) ≡ Some line
-    no_tick : is_tick line.call ≡ false
+    no_tick : is_clocked line.call ≡ false
     state_is : state_of (plain_of program given objects) next pid
         ≡ In (spot_of pid (q.place pid)) made
     sleeps : object_does objects made ≡ Next.Sleep rendez_is number
@@ -127,7 +127,7 @@ module _ (program : Program) (given : Spot → Given) (objects : Objects)
                 (Waits (grants_of (sema_at program given objects at sema) pid)));
             line = asleep.line;
             line_is = asleep.line_is;
-            no_tick = ap is_tick asleep.made;
+            no_tick = ap is_clocked asleep.made;
             state_is = settled.states pid (λ less. other) ∙ asleep.state_is;
             sleeps = refl;
             phase_is = settled.phases pid (λ less. other) ∙ asleep.phase_is;
@@ -143,7 +143,7 @@ module _ (program : Program) (given : Spot → Given) (objects : Objects)
             });
             line = meets.line;
             line_is = meets.line_is;
-            no_tick = ap is_tick meets.made;
+            no_tick = ap is_clocked meets.made;
             state_is = settled.states pid (λ less. other) ∙ meets.state_is;
             sleeps = refl;
             phase_is = settled.phases pid (λ less. other) ∙ meets.phase_is;
@@ -200,6 +200,7 @@ module _ (program : Program) (given : Spot → Given) (objects : Objects)
       by (Stays Wrote) is put =
           absurd (let both : None ≡ Some put.line = sym none ∙ put.line_is in cc)
       by (Stays (ReadsOn room)) is none = absurd none
+      by (Times timing) is none = absurd none
 
   -- whoever ticks for ever idles
   idles_after : (pid : ℕ) → pid < procs_of program → (line : Line)
@@ -273,11 +274,12 @@ module _ (program : Program) (given : Spot → Given) (objects : Objects)
       by (Stays Wrote) is put = (
         _,
         in_call_after program given objects are q most ways at quiet (procs_of program) next settled
-            to pid (q.place pid) _ put.line put.line_is (ap is_tick put.made)
+            to pid (q.place pid) _ put.line put.line_is (ap is_clocked put.made)
             (settled.states pid (λ less blocks.
             let both : Stays Wrote ≡ Stays Blocks = sym is ∙ blocks in cc) ∙ put.state_is),
       )
       by (Stays (ReadsOn room)) is none = absurd none
+      by (Times timing) is none = absurd none
 
 module _ (program : Program) (given : Spot → Given) (objects : Objects)
     (are : AreItsObjects program objects)
@@ -292,16 +294,16 @@ module _ (program : Program) (given : Spot → Given) (objects : Objects)
   nobody_wrote : (pid : ℕ) → pid < procs_of program → q.waits pid ≢ Stays Wrote
   nobody_wrote pid low wrote =
       let at_line = well.lines pid Wrote low wrote in
-      none_wrote program shown q position shows stuck pid low at_line.line at_line.is wrote
+      none_wrote program shown q position shows stuck well pid low at_line.line at_line.is wrote
 
   -- and nobody who waits would be answered
   nobody_answered : (pid : ℕ) (line : Line) → pid < procs_of program
       → slice_get program.lines (q.place pid) ≡ Some line → q.waits pid ≡ Stays Blocks
       → is_answered program position line.call ≡ false
   nobody_answered pid line low line_is blocks =
-      by (each_stopped program shown q position shows stuck pid low)
+      by (each_stopped program shown q position shows stuck well pid low)
     where
-      by : HowStopped program shown q position shows stuck pid
+      by : HowStopped program shown q position shows stuck well pid
           → is_answered program position line.call ≡ false
       by (IsOver ended) =
           absurd (let both : None ≡ Some line = sym ended.none ∙ line_is in cc)
@@ -327,21 +329,21 @@ module _ (program : Program) (given : Spot → Given) (objects : Objects)
       (lift program given (with_choices objects choices) settles.next)
   to =
       run_to (timed_such program given (with_choices objects choices)) _
-      (lift_reached program given (with_choices objects choices)
+      (lift_reached program given (with_choices objects choices) shown
       (are_with program objects choices are) settles.next settles.settled.reached)
 
   -- each process has ended, is parked, or ticks for ever
   stopped : HasStoppedIdle (timed_library_of program given (with_choices objects choices))
       (MayIdleIn IsTick) to.run
   stopped pid below =
-      by (each_stopped program shown q position shows stuck pid low)
+      by (each_stopped program shown q position shows stuck well pid low)
     where
       low : pid < procs_of program
       low =
           subst (λ (n : ℕ). pid < n) (same_procs program given (with_choices objects choices)
           ∙ procs_are program given (with_choices objects choices)) below
 
-      by : HowStopped program shown q position shows stuck pid
+      by : HowStopped program shown q position shows stuck well pid
           → HasEnded ((timed_library_of program given (with_choices objects choices)).machine.does
           (own_in (timed_library_of program given (with_choices objects choices)) pid to.run).at)
           ⊎ (IsParked (world_at (timed_library_of program given (with_choices objects choices))
@@ -381,8 +383,8 @@ module _ (program : Program) (given : Spot → Given) (objects : Objects)
           to pid low ticks.line ticks.line_is ticks.waits ticks.now ticks.is so.0))
 
   -- and one waits where it should not
-  starves : Starves program shown q position shows stuck
-  starves = one_starves program shown q position shows stuck
+  starves : Starves program shown q position shows stuck well
+  starves = one_starves program shown q position shows stuck well
 
   waits_on : rests_at (is_at_head program)
       (own_in (timed_library_of program given (with_choices objects choices)) starves.pid

@@ -19,7 +19,7 @@ use Rattle.calls.specs.Timers.{is_early}
 use Rattle.explored_calls.proofs.ExplorerSteps.{IsAtCall, IsInLine}
 use Rattle.explored_calls.proofs.Queued.{Halt, Queued, Shows, process_of}
 use Rattle.explored_calls.proofs.Queued.Amid.{Blocks, ReadsOn, Wrote}
-use Rattle.explored_calls.proofs.Queued.Halt.{For, Free, Stays}
+use Rattle.explored_calls.proofs.Queued.Halt.{For, Free, Stays, Times}
 use Rattle.shown_runs.proofs.WellLines.{IsWell}
 
 -- ---- which step it was
@@ -168,11 +168,12 @@ module _ (program : Program) (q : Queued) (at : Position)
           by_wait (Stays Wrote) wrote =
               IsStood (record { line = line; low = low; line_is = is; waits = wrote })
           by_wait (Stays (ReadsOn room)) reads = absurd (well.no_streams pid room low reads)
+          by_wait (Times timing) timed = absurd (well.no_deadlines pid timing low timed)
 
-  turns_by : (mover pid : ℕ) → mover ≡ procs_of program + pid
+  turns_by : IsWell program q → (mover pid : ℕ) → mover ≡ procs_of program + pid
       → pid < procs_of program
       → turning_of_one program (Some (process_of q pid)) ≡ status.Ready → Which mover
-  turns_by mover pid other low ready = by_line (slice_get program.lines (q.place pid)) refl
+  turns_by well mover pid other low ready = by_line (slice_get program.lines (q.place pid)) refl
     where
       by_line : (found : Option Line) → slice_get program.lines (q.place pid) ≡ found
           → Which mover
@@ -220,6 +221,7 @@ module _ (program : Program) (q : Queued) (at : Position)
           by_wait (Stays (ReadsOn room)) some =
               absurd (let none : status.Ended ≡ status.Ready =
               sym (rw (is, some) refl) ∙ ready in cc)
+          by_wait (Times timing) timed = absurd (well.no_deadlines pid timing low timed)
 
   -- So each step was one of these.
   pub which : IsWell program q → (mover : ℕ) → CanMove (system_of program) at mover → Which mover
@@ -247,7 +249,7 @@ module _ (program : Program) (q : Queued) (at : Position)
               let below : nat_lt (mover - procs_of program) (procs_of program) ≡ true =
               grind (arith, nat_tests) in
               let is_other : mover ≡ procs_of program + (mover - procs_of program) = omega arith in
-              turns_by mover (mover - procs_of program) is_other low
+              turns_by well mover (mover - procs_of program) is_other low
               (ap (turning_of_one program)
               (sym (shows.processes.each (mover - procs_of program) low))
               ∙ (sym (rw (is, below) refl) ∙ ready))

@@ -100,7 +100,7 @@ module _ (program : Program) (given : Spot → Given) (objects : Objects)
   played_at past before at same =
       let plays = before.plays [] none_told in
       let to = run_to (timed_such program given (with_choices objects plays.choices)) _
-      (lift_reached program given (with_choices objects plays.choices)
+      (lift_reached program given (with_choices objects plays.choices) shown
       (are_with program objects plays.choices are) plays.at plays.quiet.reached) in
       let there = comes program given (with_choices objects plays.choices)
       (are_with program objects plays.choices are) before.q (length past) [] plays.at plays.quiet 0
@@ -151,7 +151,7 @@ module _ (program : Program) (given : Spot → Given) (objects : Objects)
       by there =
           let plays = there.before.plays [] none_told in
           let to = run_to (timed_such program given (with_choices objects plays.choices)) _
-          (lift_reached program given (with_choices objects plays.choices)
+          (lift_reached program given (with_choices objects plays.choices) shown
           (are_with program objects plays.choices are) plays.at plays.quiet.reached) in
           let idle = subst (λ (w : Halt). StandsBy program given
           (with_choices objects plays.choices) plays.at there.pid (there.before.q.place there.pid)

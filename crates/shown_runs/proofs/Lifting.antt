@@ -50,7 +50,7 @@ use Rattle.object_machines.specs.ObjectCalls.{ObjectCall, ObjectOut, ObjectReply
 use Rattle.object_machines.specs.ObjectCalls.{ObjectStates, Objects, object_calls, object_does}
 use Rattle.object_machines.specs.ObjectCalls.{object_goes_on}
 use Rattle.object_machines.specs.ObjectCalls.ObjectCall.{Alone}
-use Rattle.object_machines.specs.ObjectEnds.{LeavesUnworn}
+use Rattle.object_machines.specs.ObjectEnds.{LeavesUnworn, sema_row, space_row}
 use Rattle.object_machines.specs.OwnCalls.OwnState.{Done, Posting}
 use Rattle.timed_machines.specs.TimedCalls.{TimedObject, timed_calls}
 use Rattle.timed_machines.specs.TimedCalls.TimedCall.{Plain, Tick}
@@ -61,14 +61,15 @@ use Rattle.timed_machines.proofs.TimerFacts.Expires.{FindsNone, TakesOne}
 use Rattle.explored_calls.specs.LibraryCalls.{AreItsObjects, Given, Spot, place_after}
 use Rattle.explored_calls.specs.LibraryCalls.{spot_in, starts_from}
 use Rattle.explored_calls.specs.TimedLibrary.{first_tick, timed_by, timed_in, timed_library_of}
-use Rattle.explored_calls.specs.TimedLibrary.{timed_program}
+use Rattle.explored_calls.specs.TimedLibrary.{timed_program, until_by}
 use Rattle.explored_calls.proofs.Running.{joined_none}
-use Rattle.explored_calls.proofs.TickMoves.{is_tick}
 use Rattle.shown_runs.specs.ShownRuns as shown
+use Rattle.shown_runs.specs.ShownRuns.{AreShownCalls, IsShownCall}
 use Rattle.call_machines.proofs.GrainEvents.{InPhase}
 use Rattle.shown_runs.proofs.Acts.{Reached, SuchSystem}
 use Rattle.shown_runs.proofs.CallSteps.{procs_are}
-use Rattle.shown_runs.proofs.Plain.{arrived, plain_by, plain_in, plain_of, plain_program}
+use Rattle.shown_runs.proofs.Plain.{arrived, is_clocked, plain_by, plain_in, plain_of}
+use Rattle.shown_runs.proofs.Plain.{plain_program}
 use Rattle.shown_runs.proofs.Quiet.{such_calls}
 use Rattle.shown_runs.proofs.ReachedRuns.{in_phase}
 
@@ -209,20 +210,22 @@ module _ (program : Program) (given : Spot → Given) (objects : Objects) where
   timed_such =
       record { system = timed_library_of program given objects; comes = LeavesTimedUnworn }
 
-  -- by the call of its line a process ticks, or is in its call
-  abbrev pub lift_by : Call → ObjectCall → TimedObjectCall
-  lift_by (call.Tick now) at = Tick now (first_tick objects now)
-  lift_by (call.Ticks now) at = Tick now (first_tick objects now)
-  lift_by other at = Plain at
+  -- by the call of its line a process ticks, or is in its call; one with a deadline begins
+  abbrev pub lift_by : ℕ → Call → ObjectCall → TimedObjectCall
+  lift_by pid (call.Acquire sema (Some moment)) at = until_by pid (sema_row objects sema) moment at
+  lift_by pid (call.Rendezvous tag (Some moment)) at = until_by pid (space_row objects) moment at
+  lift_by pid (call.Tick now) at = Tick now (first_tick objects now)
+  lift_by pid (call.Ticks now) at = Tick now (first_tick objects now)
+  lift_by pid other at = Plain at
 
   -- where no line is there is no tick
-  abbrev pub lift_in : Option Line → ObjectCall → TimedObjectCall
-  lift_in None at = Plain at
-  lift_in (Some line) at = lift_by line.call at
+  abbrev pub lift_in : ℕ → Option Line → ObjectCall → TimedObjectCall
+  lift_in pid None at = Plain at
+  lift_in pid (Some line) at = lift_by pid line.call at
 
   -- where a process is, with the clock
   abbrev pub lifted : ProgramState Spot ObjectCall → ProgramState Spot TimedObjectCall
-  lifted (In spot at) = In spot (lift_in (slice_get program.lines spot.place) at)
+  lifted (In spot at) = In spot (lift_in spot.by (slice_get program.lines spot.place) at)
   lifted Ended = Ended
 
   -- where there is a process a tick asks first
@@ -253,7 +256,11 @@ module _ (program : Program) (given : Spot → Given) (objects : Objects) where
   -- ---- where a process goes on
 
   lifts_by : (pid : ℕ) (value : Given) (made : Call)
-      → lift_by made (plain_by pid value made) ≡ timed_by objects pid value made
+      → lift_by pid made (plain_by pid value made) ≡ timed_by objects pid value made
+  lifts_by pid value (call.Acquire sema None) = refl
+  lifts_by pid value (call.Acquire sema (Some moment)) = refl
+  lifts_by pid value (call.Rendezvous tag None) = refl
+  lifts_by pid value (call.Rendezvous tag (Some moment)) = refl
   lifts_by pid value (call.Tick now) = refl
   lifts_by pid value (call.Ticks now) = refl
   lifts_by pid value other = refl
@@ -273,32 +280,37 @@ module _ (program : Program) (given : Spot → Given) (objects : Objects) where
       by (Some line) is =
           subst (λ (one : Option Line). ◌≡◌ {A = ProgramState Spot TimedObjectCall}
           (In (shown.spot_of pid place)
-          (lift_in one (plain_in pid (given (shown.spot_of pid place)) one)))
+          (lift_in pid one (plain_in pid (given (shown.spot_of pid place)) one)))
           (In (shown.spot_of pid place)
           (timed_in objects pid (given (shown.spot_of pid place)) one))) (sym is)
           (ap (λ (c : TimedObjectCall). machines.In (shown.spot_of pid place) c)
           (lifts_by pid (given (shown.spot_of pid place)) line.call))
 
-  no_tick_by : (made : Call) → is_tick made ≡ false → (one : ObjectCall)
-      → lift_by made one ≡ Plain one
-  no_tick_by (call.Tick now) none one = cc
-  no_tick_by (call.Ticks now) none one = cc
-  no_tick_by other none one = refl
+  no_tick_by : (pid : ℕ) (made : Call) → is_clocked made ≡ false → (one : ObjectCall)
+      → lift_by pid made one ≡ Plain one
+  no_tick_by pid (call.Acquire sema None) none one = refl
+  no_tick_by pid (call.Acquire sema (Some moment)) none one = cc
+  no_tick_by pid (call.Rendezvous tag None) none one = refl
+  no_tick_by pid (call.Rendezvous tag (Some moment)) none one = cc
+  no_tick_by pid (call.Tick now) none one = cc
+  no_tick_by pid (call.Ticks now) none one = cc
+  no_tick_by pid other none one = refl
 
   -- one that is in a call that is no tick is so
   pub lifts_call : (pid place : ℕ) (at : ObjectCall) (line : Line)
-      → slice_get program.lines place ≡ Some line → is_tick line.call ≡ false
+      → slice_get program.lines place ≡ Some line → is_clocked line.call ≡ false
       → lifted (In (shown.spot_of pid place) at) ≡ In (shown.spot_of pid place) (Plain at)
   lifts_call pid place at line line_is no_tick =
-      ap (λ (found : Option Line). machines.In (shown.spot_of pid place) (lift_in found at)) line_is
+      ap (λ (found : Option Line). machines.In (shown.spot_of pid place) (lift_in pid found at))
+      line_is
       ∙ ap (λ (c : TimedObjectCall). machines.In (shown.spot_of pid place) c)
-      (no_tick_by line.call no_tick at)
+      (no_tick_by pid line.call no_tick at)
 
   -- whoever is at a tick is about to make it
   abbrev IsThere : ProgramState Spot ObjectCall → Type 0
   IsThere (In spot at) =
       (line : Line) → slice_get program.lines spot.place ≡ Some line
-      → is_tick line.call ≡ true → at ≡ plain_by spot.by (given spot) line.call
+      → is_clocked line.call ≡ true → at ≡ plain_by spot.by (given spot) line.call
   IsThere Ended = ⊤
 
   there_arrived : (pid place : ℕ) → IsThere (arrived program given objects pid place)
@@ -314,7 +326,8 @@ module _ (program : Program) (given : Spot → Given) (objects : Objects) where
   -- ---- a call without a tick
 
   module _ (spot : Spot)
-      (no_tick : (at : ObjectCall) → lift_in (slice_get program.lines spot.place) at ≡ Plain at)
+      (no_tick : (at : ObjectCall)
+      → lift_in spot.by (slice_get program.lines spot.place) at ≡ Plain at)
     where
       follows_as : (gone : ObjectCall) (does : Next ObjectRequest ObjectOut)
           → machines.follows (timed_calls (object_calls objects))
@@ -389,7 +402,7 @@ module _ (program : Program) (given : Spot → Given) (objects : Objects) where
 
     module _ (spot : Spot) (at : ObjectCall) (state_is : state_of plain p pid ≡ In spot at)
         (no_tick : (one : ObjectCall)
-        → lift_in (slice_get program.lines spot.place) one ≡ Plain one) where
+        → lift_in spot.by (slice_get program.lines spot.place) one ≡ Plain one) where
       plain_state : state_of timed (lift p) pid ≡ In spot (Plain at)
       plain_state =
           state_as
@@ -423,14 +436,18 @@ module _ (program : Program) (given : Spot → Given) (objects : Objects) where
           ∙ goes_there (outcome_of made said)
 
       never_tick : (line : Line) → slice_get program.lines spot.place ≡ Some line
-          → is_tick line.call ≡ true → ⊥
+          → is_clocked line.call ≡ true → ⊥
       never_tick line line_is tick =
           by line.call tick
-          (ap (λ (found : Option Line). lift_in found (Alone Done)) (sym line_is)
+          (ap (λ (found : Option Line). lift_in spot.by found (Alone Done)) (sym line_is)
           ∙ no_tick (Alone Done))
         where
-          by : (made : Call) → is_tick made ≡ true → lift_by made (Alone Done) ≡ Plain (Alone Done)
-              → ⊥
+          by : (made : Call) → is_clocked made ≡ true
+              → lift_by spot.by made (Alone Done) ≡ Plain (Alone Done) → ⊥
+          by (call.Acquire sema None) so same = cc
+          by (call.Acquire sema (Some moment)) so same = cc
+          by (call.Rendezvous tag None) so same = cc
+          by (call.Rendezvous tag (Some moment)) so same = cc
           by (call.Tick now) so same = cc
           by (call.Ticks now) so same = cc
           by other so same = cc
@@ -534,9 +551,9 @@ module _ (program : Program) (given : Spot → Given) (objects : Objects) where
           state_as
           ∙ (ap lifted state_is
           ∙ (ap (λ (found : Option Line). machines.In spot
-          (lift_in found (Alone (Posting (proc spot.by) no_notes)))) line_is
+          (lift_in spot.by found (Alone (Posting (proc spot.by) no_notes)))) line_is
           ∙ (ap (λ (c : Call). machines.In spot
-          (lift_by c (Alone (Posting (proc spot.by) no_notes)))) made
+          (lift_by spot.by c (Alone (Posting (proc spot.by) no_notes)))) made
           ∙ ap (λ (t : TickState). machines.In spot (Tick now t)) (first_asks now some))))
 
       tick_act : act_of timed (lift p) pid
@@ -627,7 +644,8 @@ module _ (program : Program) (given : Spot → Given) (objects : Objects) where
       omega arith
 
   -- one step more
-  module _ (are : AreItsObjects program objects) (p : Position plain)
+  module _ (calls : AreShownCalls program) (are : AreItsObjects program objects)
+      (p : Position plain)
       (reached : Reached (such_calls program given objects) p) (before : Lifts p) (pid : ℕ)
       (low : pid < procs plain) where
     low_timed : pid < procs timed
@@ -648,7 +666,8 @@ module _ (program : Program) (given : Spot → Given) (objects : Objects) where
     module _ (act : Act ObjectRequest ObjectReply) (act_is : act_of plain p pid ≡ Some act)
         (so : IsAskedSo LeavesUnworn act) where
       in_call : (spot : Spot) (at : ObjectCall) → state_of plain p pid ≡ In spot at
-          → ((one : ObjectCall) → lift_in (slice_get program.lines spot.place) one ≡ Plain one)
+          → ((one : ObjectCall)
+          → lift_in spot.by (slice_get program.lines spot.place) one ≡ Plain one)
           → Lifts (acted plain p pid (Some act))
       in_call spot at is no_tick =
           record {
@@ -698,31 +717,40 @@ module _ (program : Program) (given : Spot → Given) (objects : Objects) where
               → Lifts (acted plain p pid (Some act))
           by_line spot at is None none =
               in_call spot at is
-              (λ one. ap (λ (found : Option Line). lift_in found one) none)
-          by_line spot at is (Some line) line_is = by_tick (is_tick line.call) refl
+              (λ one. ap (λ (found : Option Line). lift_in spot.by found one) none)
+          by_line spot at is (Some line) line_is = by_tick (is_clocked line.call) refl
             where
-              at_is : is_tick line.call ≡ true → at ≡ plain_by spot.by (given spot) line.call
+              at_is : is_clocked line.call ≡ true → at ≡ plain_by spot.by (given spot) line.call
               at_is tick = (subst IsThere is (before.there pid)) line line_is tick
 
-              by_call : (made : Call) → line.call ≡ made → is_tick made ≡ true
+              allowed : IsShownCall program line.call
+              allowed = calls.calls spot.place line line_is
+
+              by_call : (made : Call) → line.call ≡ made → is_clocked made ≡ true
                   → Lifts (acted plain p pid (Some act))
+              by_call (call.Acquire sema (Some moment)) made tick =
+                  absurd (subst (IsShownCall program) made allowed)
+              by_call (call.Rendezvous tag (Some moment)) made tick =
+                  absurd (subst (IsShownCall program) made allowed)
+              by_call (call.Acquire sema None) made tick = absurd cc
+              by_call (call.Rendezvous tag None) made tick = absurd cc
               by_call (call.Tick now) made tick =
                   at_tick spot line line_is now made
                   (is ∙ ap (λ (c : ObjectCall). machines.In spot c)
-                  (at_is (ap is_tick made) ∙ ap (plain_by spot.by (given spot)) made))
+                  (at_is (ap is_clocked made) ∙ ap (plain_by spot.by (given spot)) made))
               by_call (call.Ticks now) made tick =
                   absurd (over (In spot (Alone Done))
                   (is ∙ ap (λ (c : ObjectCall). machines.In spot c)
-                  (at_is (ap is_tick made) ∙ ap (plain_by spot.by (given spot)) made)) refl act
+                  (at_is (ap is_clocked made) ∙ ap (plain_by spot.by (given spot)) made)) refl act
                   act_is)
               by_call other made tick = absurd cc
 
-              by_tick : (tick : Bool) → is_tick line.call ≡ tick
+              by_tick : (tick : Bool) → is_clocked line.call ≡ tick
                   → Lifts (acted plain p pid (Some act))
               by_tick false none =
                   in_call spot at is
-                  (λ one. ap (λ (found : Option Line). lift_in found one) line_is
-                  ∙ no_tick_by line.call none one)
+                  (λ one. ap (λ (found : Option Line). lift_in spot.by found one) line_is
+                  ∙ no_tick_by spot.by line.call none one)
               by_tick true tick = by_call line.call refl tick
 
           by_state : (state : ProgramState Spot ObjectCall) → state_of plain p pid ≡ state
@@ -731,13 +759,13 @@ module _ (program : Program) (given : Spot → Given) (objects : Objects) where
           by_state (In spot at) is = by_line spot at is (slice_get program.lines spot.place) refl
 
   -- So each schedule without a clock is one with it.
-  lifts : AreItsObjects program objects → (movers : List ℕ)
+  lifts : AreShownCalls program → AreItsObjects program objects → (movers : List ℕ)
       → AllByRecursion (λ pid. pid < procs plain) movers
       → AreAskedSo LeavesUnworn (run_of plain movers) → Lifts (position_of plain movers)
-  lifts are [] below asked = lifts_first
-  lifts are (pid ∷ movers) below asked =
-      by (λ so. lifts are movers below.1 so) (act_of plain (position_of plain movers) pid) refl
-      asked
+  lifts calls are [] below asked = lifts_first
+  lifts calls are (pid ∷ movers) below asked =
+      by (λ so. lifts calls are movers below.1 so) (act_of plain (position_of plain movers) pid)
+      refl asked
     where
       by : (AreAskedSo LeavesUnworn (run_of plain movers) → Lifts (position_of plain movers))
           → (act : Option (Act ObjectRequest ObjectReply))
@@ -746,13 +774,13 @@ module _ (program : Program) (given : Spot → Given) (objects : Objects) where
           → Lifts (acted plain (position_of plain movers) pid act)
       by before None none so = before so
       by before (Some act) is so =
-          lifts_act are (position_of plain movers)
+          lifts_act calls are (position_of plain movers)
           (record { movers = movers; below = below.1; is = refl; asked = so.0 }) (before so.0) pid
           below.0 act is so.1
 
   -- and so is each position that a schedule comes to
-  pub lift_reached : AreItsObjects program objects → (p : Position plain)
+  pub lift_reached : AreShownCalls program → AreItsObjects program objects → (p : Position plain)
       → Reached (such_calls program given objects) p → Reached timed_such (lift p)
-  lift_reached are p reached =
+  lift_reached calls are p reached =
       subst (λ (at : Position plain). Reached timed_such (lift at)) reached.is
-      (lifts are reached.movers reached.below reached.asked).reached
+      (lifts calls are reached.movers reached.below reached.asked).reached

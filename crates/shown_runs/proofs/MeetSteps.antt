@@ -51,8 +51,8 @@ use Rattle.object_machines.specs.ObjectCalls.ObjectRequest.{OfSpace}
 use Rattle.object_machines.specs.ObjectEnds.{is_space_unworn}
 use Rattle.explored_calls.specs.LibraryCalls.{AreItsObjects, Given, Spot}
 use Rattle.explored_calls.proofs.Lists.{at_one}
-use Rattle.explored_calls.proofs.Queued.{AreLines, Halt, Queued, gives_up, gone, joins}
-use Rattle.explored_calls.proofs.Queued.{served_at, serves}
+use Rattle.explored_calls.proofs.Queued.{AreLines, Halt, Queued, gives_up, gone}
+use Rattle.explored_calls.proofs.Queued.{served_place, served_wait, serves}
 use Rattle.explored_calls.proofs.SpaceFacts.{WasMet, WasUnmet, one_tag, one_waits}
 use Rattle.explored_calls.proofs.SpaceFacts.{collects, leaves, waiter_gone, waiter_new, waiter_same}
 use Rattle.explored_calls.proofs.LineLemmas.{left_alone}
@@ -67,9 +67,10 @@ use Rattle.shown_runs.proofs.CallSteps.{in_library, known_idle, leads_to, placed
 use Rattle.shown_runs.proofs.Quiet.{Frame, IsMeeting, IsNoWrite, Placed, Quiet, Rests, Stands}
 use Rattle.shown_runs.proofs.Quiet.{StandsBy, frame_meeting, line_of, meeting}
 use Rattle.shown_runs.proofs.Quiet.{meetings_apart, place_at, placed_still, rests_still, sema_at}
-use Rattle.shown_runs.proofs.Quiet.{space_by, such_calls}
+use Rattle.shown_runs.proofs.Quiet.{space_by, such_calls, untimed}
 use Rattle.shown_runs.proofs.QuietSteps.{ComesQuiet, meet_step}
 use Rattle.shown_runs.proofs.ReleaseSteps.{waits_for_it}
+use Rattle.shown_runs.proofs.WellLines.{joins}
 
 -- a tag by its number
 abbrev tag_of : ℕ → Tag
@@ -737,6 +738,7 @@ module _ (program : Program) (given : Spot → Given) (objects : Objects)
     w_waits : q.waits w ≡ For (want.Partner tag)
     w_waits =
         waits_for_it (want.Partner tag) (q.waits w)
+        (untimed program given objects at w (q.place w) (q.waits w) (quiet.each w w_low).stands)
         (sym (lines.stands (want.Partner tag) w w_low) ∙ w_in)
 
     w_meets : IsMeeting program given objects at w (q.place w) tag
@@ -1037,11 +1039,12 @@ module _ (program : Program) (given : Spot → Given) (objects : Objects)
                 others = λ other far other_far. record {
                   place = at_else pid other line.next
                       (serves program q (want.Partner tag) 1).place far
-                      ∙ ap (λ (b : Bool). if b then served_at program (q.place other)
+                      ∙ ap (λ (b : Bool). if b
+                      then served_place program (q.waits other) (q.place other)
                       else q.place other) (not_taken other other_far);
                   waits = at_else pid other Free (serves program q (want.Partner tag) 1).waits far
-                      ∙ ap (λ (b : Bool). if b then Free else q.waits other)
-                      (not_taken other other_far);
+                      ∙ ap (λ (b : Bool). if b then served_wait (q.waits other)
+                      else q.waits other) (not_taken other other_far);
                   notes = refl;
                 };
                 values = refl;
@@ -1065,11 +1068,14 @@ module _ (program : Program) (given : Spot → Given) (objects : Objects)
         w_place =
             at_else pid w line.next (serves program q (want.Partner tag) 1).place
             (λ same. apart (sym same))
-            ∙ (ap (λ (b : Bool). if b then served_at program (q.place w) else q.place w) taken_w
-            ∙ ap (λ (has : Option Line). next_of has (q.place w)) w_meets.line_is)
+            ∙ (ap (λ (b : Bool). if b then served_place program (q.waits w) (q.place w)
+            else q.place w) taken_w
+            ∙ (ap (λ (h : Halt). served_place program h (q.place w)) w_waits
+            ∙ ap (λ (has : Option Line). next_of has (q.place w)) w_meets.line_is))
 
         w_none : both_gone.waits w ≡ Free
         w_none =
             at_else pid w Free (serves program q (want.Partner tag) 1).waits
             (λ same. apart (sym same))
-            ∙ ap (λ (b : Bool). if b then Free else q.waits w) taken_w
+            ∙ (ap (λ (b : Bool). if b then served_wait (q.waits w) else q.waits w) taken_w
+            ∙ ap served_wait w_waits)

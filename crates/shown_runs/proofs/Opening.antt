@@ -44,7 +44,7 @@ use Rattle.object_machines.specs.ObjectCalls.{ObjectOut, Objects, object_calls, 
 use Rattle.object_machines.specs.ObjectCalls.{opening_sema, pipe_at, sema_of}
 use Rattle.object_machines.specs.ObjectCalls.ObjectOut.{FromAlone}
 use Rattle.explored_calls.specs.LibraryCalls.{AreItsObjects, Spot}
-use Rattle.explored_calls.specs.LibraryCalls.{Given, HasEndIn, HaveEnds, ended_as, place_after}
+use Rattle.explored_calls.specs.LibraryCalls.{Given, HasEndIn, HaveEnds, place_after, place_for}
 use Rattle.explored_calls.specs.LibraryCalls.{spot_at, spot_in, starts_from}
 use Rattle.explored_calls.proofs.PipePhases.{IsQuiet, PipeFits, pipe_in}
 use Rattle.explored_calls.proofs.Queued.{Amid, Halt, Queued, Shows}
@@ -322,10 +322,12 @@ module _ (program : Program) (given : Spot → Given) where
   answer_so ending.Interrupted = Err (fault.Interrupted no_notes)
   answer_so ending.Closed = Err fault.Hungup
 
-  ends_so : (ends : Ending) → ended_as (answer_so ends) ≡ ends
-  ends_so ending.Done = refl
-  ends_so ending.Interrupted = refl
-  ends_so ending.Closed = refl
+  -- by that answer it leads where such an end leads
+  ends_so : (ends : Ending) (found : Option Line) (place : ℕ)
+      → place_for (answer_so ends) found place ≡ place_after ends found place
+  ends_so ending.Done found place = refl
+  ends_so ending.Interrupted found place = refl
+  ends_so ending.Closed found place = refl
 
   -- there is a spot where a line is
   spot_there : (pid place : ℕ) (line : Line) → slice_get program.lines place ≡ Some line
@@ -357,8 +359,8 @@ module _ (program : Program) (given : Spot → Given) where
           before = spot_of pid before;
           comes = there.1;
           answer = answer_so leads.ends;
-          follows = ap (λ (e : Ending). spot_at program pid
-              (place_after e (slice_get program.lines before) before)) (ends_so leads.ends)
+          follows = ap (spot_at program pid)
+              (ends_so leads.ends (slice_get program.lines before) before)
               ∙ (ap (λ (one : Option Line). spot_at program pid
               (place_after leads.ends one before)) leads.line_is
               ∙ (ap (spot_at program pid) (sym leads.is) ∙ spot_there pid after line is));
@@ -409,6 +411,10 @@ module _ (program : Program) (given : Spot → Given) (objects : Objects)
             subst (λ (l : Line). MadeWrite program l.call) same
             (record { pipe = put.pipe; bytes = put.bytes; low = put.low; is = put.made });
         no_streams = λ pid room low waits.
+            subst (λ (w : Halt). StandsBy program given
+            (with_choices objects plays.choices) plays.at pid (before.q.place pid)
+            (seen_by w true)) waits (plays.quiet.each pid low).stands;
+        no_deadlines = λ pid timing low waits.
             subst (λ (w : Halt). StandsBy program given
             (with_choices objects plays.choices) plays.at pid (before.q.place pid)
             (seen_by w true)) waits (plays.quiet.each pid low).stands;

@@ -22,7 +22,7 @@ use Rattle.object_machines.specs.ObjectCalls.{Objects}
 use Rattle.explored_calls.specs.LibraryCalls.{AreItsObjects, Given, HasEnd, Spot}
 use Rattle.explored_calls.proofs.ExplorerPipes.{IsOutside, Makes, halted, makes_outside}
 use Rattle.explored_calls.proofs.Lists.{at_one}
-use Rattle.explored_calls.proofs.Queued.{Halt, Queued, Shows, has_notes_now, is_for}
+use Rattle.explored_calls.proofs.Queued.{Halt, Queued, Shows, has_notes_now, may_stand}
 use Rattle.explored_calls.proofs.Queued.Amid.{Blocks, Wrote}
 use Rattle.explored_calls.proofs.Queued.Halt.{Free, Stays}
 use Rattle.shown_runs.specs.ShownRuns.{AreShownCalls, IsShownCall, spot_of, with_choices}
@@ -417,7 +417,7 @@ module _ (program : Program) (given : Spot → Given) (objects : Objects)
           shows = subst (Shows (procs_of program) _)
               (sym (shown_at.stands_after program q at shows pid line low line_is wrote))
               (shown_at.write_stands program q at shows pid line low made.pipe has.x has.is
-              (ap pipe_of made.is) (λ what. ap (is_for what) wrote));
+              (ap pipe_of made.is) (λ what. ap (may_stand what) wrote));
           follows = one_follows program q pid line ending.Done line_is;
           plays = λ most ways told fresh before. pipe_choices program given objects are is_program
               shown q _ most ways told told before
@@ -451,7 +451,7 @@ module _ (program : Program) (given : Spot → Given) (objects : Objects)
               (sym (ap (after_of program at) is
               ∙ shown_at.fails_after program q at shows pid line low line_is blocks))
               (shown_at.wait_fails program q at shows pid line low
-              (λ what. ap (is_for what) blocks));
+              (λ what. ap (may_stand what) blocks));
           follows = one_follows program q pid line ending.Interrupted line_is;
           plays = λ most ways told fresh before. pipe_choices program given objects are is_program
               shown q _ most ways told (at_one pid true told) before

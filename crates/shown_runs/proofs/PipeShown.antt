@@ -24,9 +24,9 @@ use Rattle.calls.specs.Position.{read_by, read_bytes, read_nothing, read_on}
 use Rattle.calls.specs.Program.{Program, is_stream_at, limit_at, procs_of}
 use Rattle.calls.specs.Timers.{blocked, ended, failed}
 use Rattle.explored_calls.proofs.Arrivals.{at_self}
-use Rattle.explored_calls.proofs.ExplorerPipes.{IsOutside, halted, shows_halted}
+use Rattle.explored_calls.proofs.ExplorerPipes.{IsOutside, halted, process_of, shows_halted}
 use Rattle.explored_calls.proofs.ExplorerSteps.{no, yes}
-use Rattle.explored_calls.proofs.Queued.{Queued, Shows, has_notes_now, process_of}
+use Rattle.explored_calls.proofs.Queued.{Queued, Shows, has_notes_now}
 use Rattle.explored_calls.proofs.Queued.Amid.{Blocks, Wrote}
 use Rattle.explored_calls.proofs.Queued.Halt.{Free, Stays}
 use Rattle.explored_calls.proofs.QueuedSteps.{shows_noted}
@@ -256,14 +256,14 @@ module _ (program : Program) (q : Queued) (at : Position) (shows : Shows (procs_
       ≡ is_now (pipe_is_now at (pipe_of line.call) (stood pid)) pid (ended line ending.Done)
   stands_after line_is waits =
       rw (below_both, below, shows.processes.each pid low, line_is, waits)
-      (rw (shows.processes.each pid low) refl)
+      (rw (shows.processes.each pid low, waits) refl)
 
   -- one that waits with notes goes the other way
   pub fails_after : slice_get program.lines (q.place pid) ≡ Some line → q.waits pid ≡ Stays Blocks
       → after_of program at (procs_of program + pid) ≡ is_now at pid (failed line)
   fails_after line_is waits =
       rw (below_two, past_all, other_is, shows.processes.each pid low, line_is, waits)
-      (rw (shows.processes.each pid low) refl)
+      (rw (shows.processes.each pid low, waits) refl)
     where
       other_is : procs_of program + pid - procs_of program ≡ pid
       other_is = omega arith

@@ -26,7 +26,7 @@ use Rattle.explored_calls.specs.LibraryCalls.{AreItsObjects, Given, Spot}
 use Rattle.explored_calls.proofs.Lists.{at_one}
 use Rattle.explored_calls.proofs.PipePhases.{IsAwake, IsQuiet, PipesFit, pipe_in, put_in}
 use Rattle.explored_calls.proofs.Queued.{Amid, Halt, Queued}
-use Rattle.explored_calls.proofs.Queued.Halt.{For, Free, Stays as IsAmid}
+use Rattle.explored_calls.proofs.Queued.Halt.{For, Free, Stays as IsAmid, Times}
 use Rattle.explored_calls.proofs.SpaceFacts.{AtMostOne}
 use Rattle.shown_runs.proofs.Plain.{plain_of}
 use Rattle.shown_runs.proofs.Acts.{IsSized, Reached}
@@ -124,6 +124,7 @@ module _ (program : Program) (given : Spot → Given) (objects : Objects)
   -- it waits in no line
   abbrev pub IsOutOfLine : Halt → Type 0
   IsOutOfLine (For what) = ⊥
+  IsOutOfLine (Times timing) = ⊥
   IsOutOfLine other = ⊤
 
   module _ (q : Queued) (most : ℕ) (ways : List Bool)
@@ -162,6 +163,7 @@ module _ (program : Program) (given : Spot → Given) (objects : Objects)
         → flags_of next.world pid ≡ record { wake = false; notes = set }
         → Rests program given objects next pid Free Waiting set (suc most)
     own_rests (For what) out set rests flags_is = absurd out
+    own_rests (Times timing) out set rests flags_is = absurd out
     own_rests Free out set rests flags_is =
         rests_still program given objects at next pid Free Waiting (q.notes pid) set most (suc most)
         rests (λ sema below. frame pid sema low below) flags_is (omega arith)
@@ -174,6 +176,7 @@ module _ (program : Program) (given : Spot → Given) (objects : Objects)
         → Placed program given objects at pid (is_meeting program given objects was) most
         → Placed program given objects next pid false (suc most)
     own_placed (For what) out placed = absurd out
+    own_placed (Times timing) out placed = absurd out
     own_placed Free out placed =
         placed_still program given objects at next pid false most (suc most) placed
         (space_frame pid low) (omega arith)
@@ -187,6 +190,7 @@ module _ (program : Program) (given : Spot → Given) (objects : Objects)
         → flags_of next.world pid ≡ record { wake = false; notes = set }
         → Stands program given objects next pid to halt set (suc most)
     own_stands was (For what) out out_now is to set stands flags_is = absurd out_now
+    own_stands was (Times timing) out out_now is to set stands flags_is = absurd out_now
     own_stands was Free out out_now is to set stands flags_is =
         record {
           stands = stands;

@@ -1,6 +1,6 @@
 -- An explored program without a clock, which makes the same steps: whoever ticks once posts no
 -- notes to itself, and whoever ticks for ever is over. Schedules are played by it first.
-use Rattle.std.proofs.Common.{ℕ, Option, None, Some}
+use Rattle.std.proofs.Common.{Bool, true, false, ℕ, Option, None, Some}
 use Rattle.std.specs.Prelude.{slice_get}
 use Rattle.sync_base.specs.NoteSet.{no_notes}
 use Rattle.calls.specs.declared.call.Call.{Call}
@@ -23,6 +23,14 @@ use Rattle.explored_calls.specs.LibraryCalls.{starts_from}
 abbrev pub plain_by : ℕ → Given → Call → ObjectCall
 plain_by pid given (call.Tick now) = Alone (Posting (record { 0 = pid }) no_notes)
 plain_by pid given other = call_by pid given other
+
+-- whether a call sets or takes timers
+abbrev pub is_clocked : Call → Bool
+is_clocked (call.Acquire sema (Some moment)) = true
+is_clocked (call.Rendezvous tag (Some moment)) = true
+is_clocked (call.Tick now) = true
+is_clocked (call.Ticks now) = true
+is_clocked other = false
 
 -- by the line of a place
 abbrev pub plain_in : ℕ → Given → Option Line → ObjectCall

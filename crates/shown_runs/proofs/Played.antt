@@ -33,10 +33,10 @@ use Rattle.explored_calls.proofs.ExplorerSteps.{IsAtCall, acquires_to, begins_af
 use Rattle.explored_calls.proofs.ExplorerSteps.{chooses_after, chooses_to, drains_to, fails_to}
 use Rattle.explored_calls.proofs.ExplorerSteps.{gone_with, posts_to, refuses_to, releases_to}
 use Rattle.explored_calls.proofs.ExplorerSteps.{tries_to, units_of, waits_after, waits_to}
-use Rattle.explored_calls.proofs.ExplorerSteps.{none_due, ticks_to, with_units}
+use Rattle.explored_calls.proofs.ExplorerSteps.{ticks_to, with_units}
 use Rattle.explored_calls.proofs.Running.{joined_none}
 use Rattle.explored_calls.proofs.Lists.{at_one}
-use Rattle.explored_calls.proofs.Queued.{Halt, Queued, Shows, gives_up, gone, has_notes_now, joins}
+use Rattle.explored_calls.proofs.Queued.{Halt, Queued, Shows, gives_up, gone, has_notes_now}
 use Rattle.explored_calls.proofs.Queued.{serves, with_values}
 use Rattle.explored_calls.proofs.QueuedSteps.{shows_gone, shows_left}
 use Rattle.explored_calls.proofs.Queued.Amid.{Blocks}
@@ -61,6 +61,7 @@ use Rattle.shown_runs.proofs.UnitSteps.{acquires, fails, is_refused, tries}
 use Rattle.shown_runs.proofs.WellLines.{AreFollowed, FollowsAt, HasEnds, IsWell, one_follows}
 use Rattle.shown_runs.proofs.WellLines.{serves_follow}
 use Rattle.shown_runs.proofs.WriteSteps.{IsFresh}
+use Rattle.shown_runs.proofs.WellLines.{joins, none_due}
 
 -- where both hold the first does
 and_left : (one other : Bool) → (one && other) ≡ true → one ≡ true
@@ -137,7 +138,7 @@ module _ (program : Program) (given : Spot → Given) (objects : Objects)
         by : (has : Bool) → nat_lt 0 (units_of q sema) ≡ has → Steps
         by true has =
             begins_so (gone_with q sema pid line.next)
-            (acquires_to program q at shows pid line is_at sema made has)
+            (acquires_to program q at shows pid line is_at sema None made has)
             (follows_line ending.Done)
             (plays_by _ (λ told. gone_with (seen told q) sema pid line.next)
             (λ told. seen_gone told (with_units q sema (units_of q sema - 1)) pid line.next)
@@ -148,7 +149,7 @@ module _ (program : Program) (given : Spot → Given) (objects : Objects)
             (sema_there sema (named (call.Acquire sema None) made)) made has))
         by false empty =
             begins_so (joins q pid (want.Unit sema))
-            (waits_to program q at shows pid line is_at sema made empty) (λ other. inl refl)
+            (waits_to program q at shows pid line is_at sema None made empty) (λ other. inl refl)
             (plays_by _ (λ told. joins (seen told q) pid (want.Unit sema))
             (λ told. seen_joins told q pid (want.Unit sema))
             (λ most ways told fresh choices position quiet.
@@ -246,10 +247,12 @@ module _ (program : Program) (given : Spot → Given) (objects : Objects)
             grind (arith, nat_tests)
 
     -- one that ticks once finds no timer
-    ticks_so : (now : ℕ) → line.call ≡ call.Tick now → Steps
-    ticks_so now made =
+    ticks_so : IsWell program q → (now : ℕ) → line.call ≡ call.Tick now → Steps
+    ticks_so well now made =
         begins_so (gone q pid line.next)
-        (ticks_to program q at shows pid line is_at now made) (follows_line ending.Done)
+        (ticks_to program q at shows pid line is_at now made
+        (none_due now (procs_of program) q at.processes well.no_deadlines shows.processes))
+        (follows_line ending.Done)
         (plays_by _
         (λ told. gone (has_notes_now (seen told q) pid (joined (q.notes pid) no_notes)) pid
         line.next)
@@ -284,16 +287,16 @@ module _ (program : Program) (given : Spot → Given) (objects : Objects)
             }
 
     -- one that ticks for ever rests by itself
-    ticks_never : (now : ℕ) → line.call ≡ call.Ticks now
+    ticks_never : IsWell program q → (now : ℕ) → line.call ≡ call.Ticks now
         → (line.is_served && is_early at.processes line.call) ≡ false → ⊥
-    ticks_never now made not_early =
+    ticks_never well now made not_early =
         let so = subst (TicksSo (q.place pid) line) made
         (shown.ticks (q.place pid) line is_at.line_is) in
         let served = so.1 in
         let early : is_early at.processes line.call ≡ true =
         ap (is_early at.processes) made
         ∙ ap (λ due. is_none due)
-        (none_due now (procs_of program) q at.processes shows.processes) in
+        (none_due now (procs_of program) q at.processes well.no_deadlines shows.processes) in
         let both : true ≡ false = sym (rw (served, early) refl) ∙ not_early in
         cc
 
@@ -350,7 +353,7 @@ module _ (program : Program) (given : Spot → Given) (objects : Objects)
         by : (some : Bool) → nat_lt 0 (length (q.line (want.Partner tag))) ≡ some → Steps
         by true some =
             begins_so (gone (serves program q (want.Partner tag) 1) pid line.next)
-            (meets_to program q at shows pid line is_at tag made some)
+            (meets_to program q at shows pid line is_at tag None made some)
             (serves_follow program q (want.Partner tag) 1 pid line q.values is_at.line_is)
             (plays_by _
             (λ told. gone (serves program (seen told q) (want.Partner tag) 1) pid line.next)
@@ -360,7 +363,7 @@ module _ (program : Program) (given : Spot → Given) (objects : Objects)
             (waiter_of position.object.space tag) refl))
         by false none =
             begins_so (joins q pid (want.Partner tag))
-            (calls_to program q at shows pid line is_at tag made none) (λ other. inl refl)
+            (calls_to program q at shows pid line is_at tag None made none) (λ other. inl refl)
             (plays_by _ (λ told. joins (seen told q) pid (want.Partner tag))
             (λ told. seen_joins told q pid (want.Partner tag))
             (λ most ways told fresh choices position quiet.
@@ -423,8 +426,8 @@ module _ (program : Program) (given : Spot → Given) (objects : Objects)
             (let low : nat_lt pipe (length program.pipes) ≡ true = named (call.Hangup pipe) is in
             grind (arith, nat_tests))))
         by call.Drain is allowed = inl (drains_so is)
-        by (call.Tick now) is allowed = inl (ticks_so now is)
-        by (call.Ticks now) is allowed = absurd (ticks_never now is not_early)
+        by (call.Tick now) is allowed = inl (ticks_so well now is)
+        by (call.Ticks now) is allowed = absurd (ticks_never well now is not_early)
         by call.Choose is allowed = inl (chooses_so is)
         by call.Never is allowed =
             inr (record {

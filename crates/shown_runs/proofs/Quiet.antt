@@ -42,9 +42,9 @@ use Rattle.object_machines.specs.ObjectCalls.ObjectCall.{AtPipe, AtSema, InSpace
 use Rattle.object_machines.specs.ObjectEnds.{AreApart, LeavesUnworn, sema_row, space_row}
 use Rattle.explored_calls.specs.LibraryCalls.{AreItsObjects, Given, Spot}
 use Rattle.explored_calls.proofs.PipePhases.{IsQuiet}
-use Rattle.explored_calls.proofs.Queued.{Halt, Queued, is_for}
+use Rattle.explored_calls.proofs.Queued.{Halt, Queued, Timing, is_for}
 use Rattle.explored_calls.proofs.Queued.Amid.{Blocks, ReadsOn, Wrote}
-use Rattle.explored_calls.proofs.Queued.Halt.{For, Free, Stays as IsAmid}
+use Rattle.explored_calls.proofs.Queued.Halt.{For, Free, Stays as IsAmid, Times}
 use Rattle.explored_calls.proofs.SpaceFacts.{AtMostOne}
 use Rattle.shown_runs.specs.ShownRuns.{offered_at, rendez_at, spot_of}
 use Rattle.shown_runs.proofs.Plain.{arrived, plain_of}
@@ -92,6 +92,7 @@ module _ (program : Program) (given : Spot → Given) (objects : Objects) where
   is_meeting (For (want.Unit sema)) = false
   is_meeting (For (want.Partner tag)) = true
   is_meeting (IsAmid amid) = false
+  is_meeting (Times timing) = false
 
   -- what the world and the space have of a process that waits for a partner, or does not
   pub record Placed (at : Position (plain_of program given objects)) (pid : ℕ) (meets : Bool)
@@ -250,6 +251,7 @@ module _ (program : Program) (given : Spot → Given) (objects : Objects) where
   StandsBy at pid place (IsAmid Blocks) = IsTold at pid place
   StandsBy at pid place (IsAmid Wrote) = HasPutAt at pid place
   StandsBy at pid place (IsAmid (ReadsOn room)) = ⊥
+  StandsBy at pid place (Times timing) = ⊥
 
   -- one that has put no write
   pub quiet_by : (at : Position (plain_of program given objects)) (pid place : ℕ) (waits : Halt)
@@ -277,6 +279,7 @@ module _ (program : Program) (given : Spot → Given) (objects : Objects) where
           (at_pipe_quiet program given objects (spot_of pid place) told.pipe _ refl (λ over. over))
   quiet_by at pid place (IsAmid Wrote) no_write put = absurd no_write
   quiet_by at pid place (IsAmid (ReadsOn room)) no_write none = absurd none
+  quiet_by at pid place (Times timing) no_write none = absurd none
 
   -- how a process stands, by its place, its wait and its notes
   pub record Stands (at : Position (plain_of program given objects)) (pid place : ℕ)
@@ -537,6 +540,12 @@ module _ (program : Program) (given : Spot → Given) (objects : Objects) where
           let few = rests.few other low in
           rw grants (omega arith)
 
+  -- one that stands is in no call with a deadline
+  pub untimed : (at : Position (plain_of program given objects)) (pid place : ℕ) (waits : Halt)
+      → StandsBy at pid place waits → (timing : Timing) → waits ≢ Times timing
+  untimed at pid place waits stands timing is =
+      subst (λ (w : Halt). StandsBy at pid place w) is stands
+
   -- a process that does not act stands as before
   pub stands_still : (at next : Position (plain_of program given objects)) (pid place : ℕ)
       (waits : Halt) (set held : NoteSet) (most more : ℕ)
@@ -616,6 +625,7 @@ module _ (program : Program) (given : Spot → Given) (objects : Objects) where
             phase_is = stage ∙ put.phase_is;
           }
       by (IsAmid (ReadsOn room)) none = absurd none
+      by (Times timing) none = absurd none
 
   -- two members that differ have two Rendez
   pub meetings_apart : (pid other : ℕ) → pid ≢ other → meeting pid ≢ meeting other

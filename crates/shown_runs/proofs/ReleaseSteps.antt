@@ -36,10 +36,10 @@ use Rattle.explored_calls.specs.LibraryCalls.{AreItsObjects, Given, Spot}
 use Rattle.explored_calls.proofs.ExplorerSteps.{units_of, with_units}
 use Rattle.explored_calls.proofs.LineLemmas.{stands_taken}
 use Rattle.explored_calls.proofs.PipePhases.{IsQuiet}
-use Rattle.explored_calls.proofs.Queued.{AreLines, Halt, Queued, gone, is_for, itself, same_want}
-use Rattle.explored_calls.proofs.Queued.{served_at}
+use Rattle.explored_calls.proofs.Queued.{AreLines, Halt, Queued, Timing, gone, is_for, itself}
+use Rattle.explored_calls.proofs.Queued.{same_want, served_place, served_wait}
 use Rattle.explored_calls.proofs.Queued.{serves, stands_nowhere}
-use Rattle.explored_calls.proofs.Queued.Halt.{For, Free, Stays}
+use Rattle.explored_calls.proofs.Queued.Halt.{For, Free, Stays, Times}
 use Rattle.shown_runs.specs.ShownRuns.{spot_of}
 use Rattle.shown_runs.proofs.Plain.{plain_of}
 use Rattle.shown_runs.proofs.Acts.{Leads, asks}
@@ -48,7 +48,7 @@ use Rattle.shown_runs.proofs.CallSteps.{changed_after, every, frame_words, goes_
 use Rattle.shown_runs.proofs.CallSteps.{in_library, known_idle, leads_to, placed_of, rests_of}
 use Rattle.explored_calls.proofs.SpaceFacts.{AtMostOne}
 use Rattle.shown_runs.proofs.Piped.{Piped, keeps_two, piped_on}
-use Rattle.shown_runs.proofs.Quiet.{quiet_by, such_calls}
+use Rattle.shown_runs.proofs.Quiet.{quiet_by, such_calls, untimed}
 use Rattle.shown_runs.proofs.Quiet.{SpaceFrame, placed_still, space_words}
 use Rattle.shown_runs.proofs.Quiet.{Changed, Frame, IsAsleep, IsLined, Quiet, Rests, SameSeat}
 use Rattle.shown_runs.proofs.Quiet.{Stands}
@@ -60,10 +60,12 @@ use Rattle.shown_runs.proofs.Serving.{IsServed, Serving}
 use Rattle.shown_runs.proofs.ServingSteps.{wakes_all, wakes_one}
 
 -- who is in a line waits for it
-pub waits_for_it : (what : Want) (has : Halt) → is_for what has ≡ true → has ≡ For what
-waits_for_it what Free is = cc
-waits_for_it what (For other) is = ap For (sym (same_want what other is))
-waits_for_it what (Stays amid) is = cc
+pub waits_for_it : (what : Want) (has : Halt) → ((timing : Timing) → has ≢ Times timing)
+    → is_for what has ≡ true → has ≡ For what
+waits_for_it what Free untimed is = cc
+waits_for_it what (For other) untimed is = ap For (sym (same_want what other is))
+waits_for_it what (Stays amid) untimed is = cc
+waits_for_it what (Times timing) untimed is = absurd (untimed timing refl)
 
 module _ (program : Program) (given : Spot → Given) (objects : Objects)
     (are : AreItsObjects program objects) (q : Queued) (most : ℕ) (ways : List Bool)
@@ -163,12 +165,14 @@ module _ (program : Program) (given : Spot → Given) (objects : Objects)
       → stands_in (take (units_of q sema + count) (q.line (want.Unit sema))) pid ≡ false
       → all_served.place pid ≡ q.place pid
   place_same pid out =
-      ap (λ (b : Bool). if b then served_at program (q.place pid) else q.place pid) out
+      ap (λ (b : Bool). if b then served_place program (q.waits pid) (q.place pid)
+      else q.place pid) out
 
   waits_same : (pid : ℕ)
       → stands_in (take (units_of q sema + count) (q.line (want.Unit sema))) pid ≡ false
       → all_served.waits pid ≡ q.waits pid
-  waits_same pid out = ap (λ (b : Bool). if b then Free else q.waits pid) out
+  waits_same pid out =
+      ap (λ (b : Bool). if b then served_wait (q.waits pid) else q.waits pid) out
 
   -- ---- nobody is served
 
@@ -326,6 +330,8 @@ module _ (program : Program) (given : Spot → Given) (objects : Objects)
       waits : q.waits pid ≡ For (want.Unit sema)
       waits =
           waits_for_it (want.Unit sema) (q.waits pid)
+          (untimed program given objects at pid (q.place pid) (q.waits pid)
+          (quiet.each pid less).stands)
           (sym (lines.stands (want.Unit sema) pid less)
           ∙ stands_taken (units_of q sema + count) (q.line (want.Unit sema)) pid gets)
 
@@ -372,9 +378,10 @@ module _ (program : Program) (given : Spot → Given) (objects : Objects)
             line = asleep.line;
             number = grants_of (sema_at program given objects at sema) pid;
             line_is = asleep.line_is;
-            next_is = sym (ap (λ (b : Bool). if b then served_at program (q.place pid)
-                else q.place pid) gets
-                ∙ ap (λ (found : Option Line). next_of found (q.place pid)) asleep.line_is);
+            next_is = sym (ap (λ (b : Bool). if b
+                then served_place program (q.waits pid) (q.place pid) else q.place pid) gets
+                ∙ (ap (λ (h : Halt). served_place program h (q.place pid)) waits
+                ∙ ap (λ (found : Option Line). next_of found (q.place pid)) asleep.line_is));
             state_is = led.stays.states pid apart_from ∙ asleep.state_is;
             phase_is = led.stays.phases pid apart_from ∙ asleep.phase_is;
             rests = rests_own program given objects at led.next pid sema (For (want.Unit sema))
@@ -437,8 +444,9 @@ module _ (program : Program) (given : Spot → Given) (objects : Objects)
           choices = changed.choices ∙ quiet.choices;
           others = stands_as;
           granted = is_served;
-          gone = λ pid is. ap (λ (b : Bool). if b then Free else q.waits pid)
-              (gets_by pid true is);
+          gone = λ pid less is.
+              ap (λ (b : Bool). if b then served_wait (q.waits pid) else q.waits pid)
+              (gets_by pid true is) ∙ ap served_wait (waits pid less is);
           idle = led.known.now.phase_is;
           rests = rests_still program given objects at led.next by Free Waiting (q.notes by)
               (q.notes by) most (suc most)

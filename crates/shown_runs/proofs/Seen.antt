@@ -16,16 +16,17 @@ use Rattle.object_machines.specs.ObjectCalls.{Objects}
 use Rattle.explored_calls.specs.LibraryCalls.{AreItsObjects, Given, Spot}
 use Rattle.explored_calls.proofs.ExplorerPipes.{halted}
 use Rattle.explored_calls.proofs.Lists.{at_one}
-use Rattle.explored_calls.proofs.Queued.{AreLines, Halt, Queued, gives_up, gone, is_for, joins}
-use Rattle.explored_calls.proofs.Queued.{serves, with_values}
+use Rattle.explored_calls.proofs.Queued.{AreLines, Halt, Queued, gives_up, gone, is_for}
+use Rattle.explored_calls.proofs.Queued.{served_place, served_wait, serves, with_values}
 use Rattle.explored_calls.proofs.Queued.Amid.{Blocks, ReadsOn, Wrote}
-use Rattle.explored_calls.proofs.Queued.Halt.{For, Free, Stays}
+use Rattle.explored_calls.proofs.Queued.Halt.{For, Free, Stays, Times}
 use Rattle.shown_runs.proofs.Plain.{plain_of}
 use Rattle.shown_runs.proofs.CallSteps.{at_else, at_self}
 use Rattle.shown_runs.proofs.PipeSteps.{MovesTo}
 use Rattle.shown_runs.proofs.Piped.{Piped, piped_on}
 use Rattle.shown_runs.proofs.Quiet.{IsLined, Quiet, sema_at, stands_still}
 use Rattle.shown_runs.proofs.QuietSteps.{SameFor, same_stands}
+use Rattle.shown_runs.proofs.WellLines.{joins}
 
 -- what a process waits for, as the library has it, by whether it was told to wait
 abbrev pub seen_by : Halt → Bool → Halt
@@ -126,6 +127,7 @@ seen_for what (Stays Wrote) told = refl
 seen_for what (Stays (ReadsOn room)) told = refl
 seen_for what (Stays Blocks) true = refl
 seen_for what (Stays Blocks) false = refl
+seen_for what (Times timing) told = refl
 
 -- so the lines of the library are lines of processes too
 pub lines_seen : (count : ℕ) (told : ℕ → Bool) (q : Queued) → AreLines count q
@@ -192,6 +194,35 @@ seen_gives_up told q pid what to =
       pipes = refl;
     }
 
+-- one that is served goes on at the same place
+seen_place : (program : Program) (place : ℕ) (halt : Halt) (told : Bool)
+    → served_place program halt place ≡ served_place program (seen_by halt told) place
+seen_place program place Free told = refl
+seen_place program place (For other) told = refl
+seen_place program place (Stays Wrote) told = refl
+seen_place program place (Stays (ReadsOn room)) told = refl
+seen_place program place (Stays Blocks) true = refl
+seen_place program place (Stays Blocks) false = refl
+seen_place program place (Times timing) told = refl
+
+-- and waits for the same
+seen_wait : (halt : Halt) (told : Bool)
+    → seen_by (served_wait halt) told ≡ served_wait (seen_by halt told)
+seen_wait Free told = refl
+seen_wait (For other) told = refl
+seen_wait (Stays Wrote) told = refl
+seen_wait (Stays (ReadsOn room)) told = refl
+seen_wait (Stays Blocks) true = refl
+seen_wait (Stays Blocks) false = refl
+seen_wait (Times timing) told = refl
+
+-- whether it is served or not
+seen_served : (test : Bool) (halt : Halt) (told : Bool)
+    → seen_by (if test then served_wait halt else halt) told
+    ≡ (if test then served_wait (seen_by halt told) else seen_by halt told)
+seen_served true halt told = seen_wait halt told
+seen_served false halt told = refl
+
 -- the first of a line are served, and one goes on
 pub seen_serves : (told : ℕ → Bool) (program : Program) (q : Queued) (what : Want) (units : ℕ)
     (values : List ℕ) (pid to : ℕ)
@@ -200,13 +231,16 @@ pub seen_serves : (told : ℕ → Bool) (program : Program) (q : Queued) (what :
 seen_serves told program q what units values pid to =
     record {
       each = λ other. record {
-        place = refl;
+        place = ap (λ (n : ℕ). if other == pid then to
+            else (if stands_in (take units (q.line what)) other then n else q.place other))
+            (seen_place program (q.place other) (q.waits other) (told other));
         waits = seen_if (other == pid) Free
-            (if stands_in (take units (q.line what)) other then Free else q.waits other)
+            (if stands_in (take units (q.line what)) other then served_wait (q.waits other)
+            else q.waits other)
             (told other) refl
             ∙ ap (λ (h : Halt). if other == pid then Free else h)
-            (seen_if (stands_in (take units (q.line what)) other) Free (q.waits other)
-            (told other) refl);
+            (seen_served (stands_in (take units (q.line what)) other) (q.waits other)
+            (told other));
         notes = refl;
       };
       values = refl;

@@ -101,7 +101,8 @@ module _ (program : Program) (given : Spot → Given) (objects : Objects) where
     pub granted : (pid : ℕ) → pid < procs_of program → stands_in served pid ≡ true
         → IsServed at pid sema (q.place pid) (q.notes pid) most
     -- of the served the lines say that they wait no more
-    pub gone : (pid : ℕ) → stands_in served pid ≡ true → q.waits pid ≡ Free
+    pub gone : (pid : ℕ) → pid < procs_of program → stands_in served pid ≡ true
+        → q.waits pid ≡ Free
     -- the process that releases is in no sleep and no wakeup
     pub idle : phase_of at.world by ≡ phase.Idle
     -- it has no mark, and waits nowhere

@@ -244,7 +244,7 @@ module _ (program : Program) (given : Spot → Given) (objects : Objects)
     x_stands : Stands program given objects goes.next x (q.place x) (q.waits x) (q.notes x) most
     x_stands =
         subst (λ (w : Halt). Stands program given objects goes.next x (q.place x) w
-        (q.notes x) most) (sym (serving.gone x x_in))
+        (q.notes x) most) (sym (serving.gone x x_low x_in))
         (record {
           stands = record {
             state_is = goes.known.now.state_is ∙ ap (arrived program given objects x) one.next_is;
@@ -321,7 +321,7 @@ module _ (program : Program) (given : Spot → Given) (objects : Objects)
           choices = changed.choices ∙ serving.choices;
           others = λ pid less apart is. stands_on pid less apart is (same_or_not pid x);
           granted = sleeps_on;
-          gone = λ pid is. serving.gone pid (still_in pid is);
+          gone = λ pid less is. serving.gone pid less (still_in pid is);
           idle = goes.stays.phases by by_apart ∙ woken.known.now.phase_is;
           rests = rests_still program given objects at goes.next by Free Waiting (q.notes by)
               (q.notes by) most most serving.rests (frame by low by_apart)

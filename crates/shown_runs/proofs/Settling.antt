@@ -54,7 +54,7 @@ use Rattle.explored_calls.proofs.Directions.{finds_so, found_by, shown, writes_m
 use Rattle.explored_calls.proofs.PipePhases.{PipeFits, put_in}
 use Rattle.explored_calls.proofs.Queued.{Halt, Queued, Shows}
 use Rattle.explored_calls.proofs.Queued.Amid.{Blocks, ReadsOn, Wrote}
-use Rattle.explored_calls.proofs.Queued.Halt.{For, Free, Stays}
+use Rattle.explored_calls.proofs.Queued.Halt.{For, Free, Stays, Times}
 use Rattle.shown_runs.specs.ShownRuns.{spot_of}
 use Rattle.shown_runs.proofs.Plain.{arrived, plain_of}
 use Rattle.shown_runs.proofs.Acts.{IsSized, Leads, Reached, asks, falls_asleep, led_so}
@@ -517,6 +517,7 @@ module _ (program : Program) (given : Spot → Given) (objects : Objects)
           by (Stays Blocks) is = tt
           by (Stays Wrote) is = absurd (none_wrote pid low is)
           by (Stays (ReadsOn room)) is = tt
+          by (Times timing) is = tt
 
       module _ (pid : ℕ) (low : pid < procs_of program)
           (next : Position (plain_of program given objects)) (settled : Settled pid next)
@@ -775,6 +776,7 @@ module _ (program : Program) (given : Spot → Given) (objects : Objects)
                 settled = settles_none pid low before.next before.settled (λ blocks.
                     let both : Stays (ReadsOn room) ≡ Stays Blocks = sym is ∙ blocks in cc);
               }
+          by (Times timing) is = absurd (well.no_deadlines pid timing low is)
           by (Stays Blocks) is =
               let at_line = well.lines pid Blocks low is in
               let made = well.blocks pid at_line.line low at_line.is is in

@@ -28,10 +28,9 @@ use Rattle.object_machines.specs.ObjectCalls.ObjectCall.{AtPipe}
 use Rattle.explored_calls.specs.LibraryCalls.{AreItsObjects, Given, Spot}
 use Rattle.timed_machines.specs.TimedCalls.TimedCall.{Plain}
 use Rattle.explored_calls.specs.TimedLibrary.{timed_library_of}
-use Rattle.explored_calls.proofs.TickMoves.{is_tick}
 use Rattle.explored_calls.proofs.Queued.{Halt, Queued, Shows, itself, process_of, stands_by}
 use Rattle.explored_calls.proofs.Queued.Amid.{Blocks, ReadsOn, Wrote}
-use Rattle.explored_calls.proofs.Queued.Halt.{For, Free, Stays}
+use Rattle.explored_calls.proofs.Queued.Halt.{For, Free, Stays, Times}
 use Rattle.shown_runs.specs.ShownRuns.{ComesTo, IsAsShown, SleepsAtPipe, SleepsFor}
 use Rattle.shown_runs.specs.ShownRuns.{SleepsForPartner, StandsSo, WaitsAtPipe, spot_of}
 use Rattle.shown_runs.proofs.Plain.{arrived, plain_of}
@@ -45,6 +44,7 @@ use Rattle.shown_runs.proofs.Quiet.{WasTold, is_meeting, meeting, place_at, rend
 use Rattle.shown_runs.proofs.Quiet.WasTold.{ToRead, ToWrite}
 use Rattle.shown_runs.proofs.Seen.{seen, seen_by}
 use Rattle.shown_runs.proofs.Settling.{Settled, SleepsHere, WaitsIn, none_told, waits_of}
+use Rattle.shown_runs.proofs.Plain.{is_clocked}
 
 -- ---- a position that is quiet
 
@@ -80,7 +80,7 @@ module _ (program : Program) (given : Spot → Given) (objects : Objects)
 
   -- and one that is in a call that is no tick
   pub in_call_after : (pid place : ℕ) (at : ObjectCall) (line : Line)
-      → slice_get program.lines place ≡ Some line → is_tick line.call ≡ false
+      → slice_get program.lines place ≡ Some line → is_clocked line.call ≡ false
       → state_of (plain_of program given objects) next pid ≡ In (spot_of pid place) at
       → (own_in (timed_library_of program given objects) pid to.run).at
       ≡ In (spot_of pid place) (Plain at)
@@ -141,7 +141,7 @@ module _ (program : Program) (given : Spot → Given) (objects : Objects)
   partner_after pid tag low other meets placed =
       record {
         number = (place_at program given objects at pid).meetings;
-        at = in_call_after pid (q.place pid) _ meets.line meets.line_is (ap is_tick meets.made)
+        at = in_call_after pid (q.place pid) _ meets.line meets.line_is (ap is_clocked meets.made)
             (state_still pid _ other meets.state_is);
         asleep = stage_still pid _ other meets.phase_is;
         posted = posted_after (meeting program given objects pid)
@@ -161,8 +161,8 @@ module _ (program : Program) (given : Spot → Given) (objects : Objects)
   unit_after pid sema low other asleep rests =
       record {
         number = grants_of (sema_at program given objects at sema) pid;
-        at = in_call_after pid (q.place pid) _ asleep.line asleep.line_is (ap is_tick asleep.made)
-            (state_still pid _ other asleep.state_is);
+        at = in_call_after pid (q.place pid) _ asleep.line asleep.line_is
+            (ap is_clocked asleep.made) (state_still pid _ other asleep.state_is);
         asleep = stage_still pid _ other asleep.phase_is;
         posted = posted_after (rendez program given objects sema pid)
             (of_no_seat program given objects are sema pid asleep.low low)
@@ -190,9 +190,9 @@ module _ (program : Program) (given : Spot → Given) (objects : Objects)
   pub told_no_tick : {pid : ℕ} {line : Line} {pipe number : ℕ} {rendez_is : RendezId}
       (made : CallState)
       → WasTold program given objects (spot_of pid (q.place pid)) line pipe number rendez_is made
-      → is_tick line.call ≡ false
-  told_no_tick made (ToRead room is rendez_same at_is) = ap is_tick is
-  told_no_tick made (ToWrite bytes is rendez_same at_is) = ap is_tick is
+      → is_clocked line.call ≡ false
+  told_no_tick made (ToRead room is rendez_same at_is) = ap is_clocked is
+  told_no_tick made (ToWrite bytes is rendez_same at_is) = ap is_clocked is
 
   -- one that waits at a direction
   pipe_after : (pid : ℕ) → pid < procs_of program
@@ -264,13 +264,14 @@ module _ (program : Program) (given : Spot → Given) (objects : Objects)
             writer = (given (spot_of pid (q.place pid))).writer;
             bytes = replicate put.bytes 0;
             number = put.number;
-            at = in_call_after pid (q.place pid) _ put.line put.line_is (ap is_tick put.made)
+            at = in_call_after pid (q.place pid) _ put.line put.line_is (ap is_clocked put.made)
                 (state_still pid _ (λ blocks.
                 let both : Stays Wrote ≡ Stays Blocks = sym is ∙ blocks in cc) put.state_is);
             awake = stage_still pid _ (λ blocks.
                 let both : Stays Wrote ≡ Stays Blocks = sym is ∙ blocks in cc) put.phase_is;
           }
       by (Stays (ReadsOn room)) none rests is = absurd none
+      by (Times timing) none rests is = absurd none
 
   -- So the run comes to the position.
   pub comes : (shown : Position) → Shows (procs_of program) q shown

@@ -21,11 +21,12 @@ use Rattle.calls.specs.Position.{status_of_one, turning_at, turning_of_one}
 use Rattle.calls.specs.Program.{Program, procs_of}
 use Rattle.calls.specs.Timers.{is_early}
 use Rattle.explored_calls.specs.LibraryCalls.{TicksSo}
-use Rattle.explored_calls.proofs.ExplorerSteps.{begins_ready, none_due, waits_ready}
+use Rattle.explored_calls.proofs.ExplorerSteps.{begins_ready, waits_ready}
 use Rattle.explored_calls.proofs.Queued.{Halt, Queued, Shows, process_of}
 use Rattle.explored_calls.proofs.Queued.Amid.{Blocks, ReadsOn, Wrote}
-use Rattle.explored_calls.proofs.Queued.Halt.{For, Free, Stays}
+use Rattle.explored_calls.proofs.Queued.Halt.{For, Free, Stays, Times}
 use Rattle.shown_runs.specs.ShownRuns.{AreShownCalls}
+use Rattle.shown_runs.proofs.WellLines.{IsWell, none_due}
 
 -- a number below the bound that passes the test
 pub record IsFound (test : ℕ → Bool) (bound : ℕ) : Type 0 where
@@ -72,7 +73,7 @@ both_so false other is = cc
 
 module _ (program : Program) (shown : AreShownCalls program) (q : Queued) (at : Position)
     (shows : Shows (procs_of program) q at)
-    (stuck : is_stuck (system_of program) at ≡ true) where
+    (stuck : is_stuck (system_of program) at ≡ true) (well : IsWell program q) where
   movers : ℕ
   movers = procs_of program + procs_of program + 1
 
@@ -190,6 +191,7 @@ module _ (program : Program) (shown : AreShownCalls program) (q : Queued) (at : 
           by_wait : (waits : Halt) → q.waits pid ≡ waits → HowStopped pid
           by_wait Free none = by_call line.call refl none
           by_wait (Stays Wrote) wrote = absurd (none_wrote pid low line is wrote)
+          by_wait (Times timing) timed = absurd (well.no_deadlines pid timing low timed)
           by_wait (Stays (ReadsOn room)) reads =
               absurd (not_ready pid (omega arith)
               (rw (
@@ -365,7 +367,8 @@ module _ (program : Program) (shown : AreShownCalls program) (q : Queued) (at : 
                   let early : is_early at.processes ticks.line.call ≡ true =
                   ap (is_early at.processes) ticks.is
                   ∙ ap (λ due. is_none due)
-                  (none_due ticks.now (procs_of program) q at.processes shows.processes) in
+                  (none_due ticks.now (procs_of program) q at.processes well.no_deadlines
+                  shows.processes) in
                   absurd (let yes_ended : has_ended (status_of program at found.n) ≡ true =
                   ap has_ended (sym status_is) ∙ rw (line_is, free, served, early) refl in
                   let no_ended = not_ended in

@@ -1,7 +1,7 @@
 -- What is known of the lines of processes, whatever the library does: the calls that processes are
 -- amid, the ends that they have, and the places to which a step leads them.
-use Rattle.std.proofs.Common.{◌≡◌, ◌≢◌, ◌⊎◌, inl, inr, ℕ, ◌<◌, ◌==◌, Bool, if◌then◌else◌}
-use Rattle.std.proofs.Common.{true, false}
+use Rattle.std.proofs.Common.{◌≡◌, ◌≢◌, ◌⊎◌, inl, inr, ℕ, zero, suc, ◌+◌, ◌<◌, ◌==◌, Bool}
+use Rattle.std.proofs.Common.{if◌then◌else◌, true, false, [], ◌∷◌, sym}
 use Rattle.std.proofs.Common.{Option, Some, None, List, length, take, refl, ap, ◌∙◌, arith}
 use Rattle.std.specs.Prelude.{slice_get}
 use Rattle.std.proofs.lemmas.Bool.Decides.{nat_tests}
@@ -11,17 +11,66 @@ use Rattle.calls.specs.declared.call.Call.TheVariants as call
 use Rattle.calls.specs.declared.ending.Ending.{Ending}
 use Rattle.calls.specs.declared.ending.Ending.TheVariants as ending
 use Rattle.calls.specs.declared.line.Line.{Line}
+use Rattle.calls.specs.declared.process.Process.{Process}
+use Rattle.calls.specs.declared.process.Timer.{Timer}
+use Rattle.calls.specs.declared.process.Timer.TheVariants as timer
 use Rattle.calls.specs.declared.process.Want.{Want}
 use Rattle.calls.specs.Lines.{after_ending, next_of}
 use Rattle.calls.specs.Pipes.{Direction}
 use Rattle.calls.specs.Program.{Program, procs_of}
+use Rattle.calls.specs.Timers.{due_from, earlier, first_due}
 use Rattle.object_machines.specs.ObjectCalls.{Objects}
 use Rattle.explored_calls.specs.LibraryCalls.{Given, HasEnd, Spot}
-use Rattle.explored_calls.proofs.Lists.{at_one}
-use Rattle.explored_calls.proofs.Queued.{Amid, Queued, gone, served_at, serves, with_values}
+use Rattle.explored_calls.proofs.Lists.{Has, at_one}
+use Rattle.explored_calls.proofs.Queued.{Amid, Halt, Queued, Timing, gone, joins_by, process_of}
+use Rattle.explored_calls.proofs.Queued.{served_at, served_place, serves, timer_by, with_values}
 use Rattle.explored_calls.proofs.Queued.Amid.{Blocks, ReadsOn, Wrote}
-use Rattle.explored_calls.proofs.Queued.Halt.{Stays}
+use Rattle.explored_calls.proofs.Queued.Halt.{For, Free, Stays, Times}
 use Rattle.shown_runs.specs.ShownRuns.{spot_of}
+
+-- ---- where nobody is amid a call with a deadline
+
+-- what is there is below the length
+there_low : {A : Type 0} (xs : List A) (i : ℕ) (x : A) → slice_get xs i ≡ Some x → i < length xs
+there_low [] i x there = cc
+there_low (y ∷ xs) zero x there = omega arith
+there_low (y ∷ xs) (suc i) x there = let low = there_low xs i x there in omega (arith, low)
+
+-- where no process has set its timer none is due
+none_from : (now pid : ℕ) (processes : List Process)
+    → ((i : ℕ) (one : Process) → slice_get processes i ≡ Some one → one.timer ≡ timer.Unset)
+    → due_from now pid None processes ≡ None
+none_from now pid [] unset = refl
+none_from now pid (process ∷ processes) unset =
+    ap (λ (t : Timer). due_from now (pid + 1) (earlier now pid None t) processes)
+    (unset 0 process refl)
+    ∙ none_from now (pid + 1) processes (λ i one there. unset (suc i) one there)
+
+-- only a call with a deadline sets a timer
+unset_by : (halt : Halt) → ((timing : Timing) → halt ≢ Times timing) → timer_by halt ≡ timer.Unset
+unset_by Free untimed = refl
+unset_by (For what) untimed = refl
+unset_by (Stays amid) untimed = refl
+unset_by (Times timing) untimed = absurd (untimed timing refl)
+
+-- so none is due
+pub none_due : (now count : ℕ) (q : Queued) (processes : List Process)
+    → ((pid : ℕ) (timing : Timing) → pid < count → q.waits pid ≢ Times timing)
+    → Has processes count (process_of q) → first_due now processes ≡ None
+none_due now count q processes untimed has =
+    none_from now 0 processes (λ i one there. unset i one there)
+  where
+    unset : (i : ℕ) (one : Process) → slice_get processes i ≡ Some one → one.timer ≡ timer.Unset
+    unset i one there =
+        let low : i < length processes = there_low processes i one there in
+        let less : i < count = rw (sym has.many) low in
+        let same : one ≡ process_of q i = grind (arith, sym there ∙ has.each i less) in
+        ap (λ (p : Process). p.timer) same
+        ∙ unset_by (q.waits i) (λ timing. untimed i timing less)
+
+-- one joins a line, without a deadline
+abbrev pub joins : Queued → ℕ → Want → Queued
+joins q pid what = joins_by q pid what None
 
 -- ---- what is known of the lines of processes
 
@@ -78,6 +127,9 @@ module _ (program : Program) where
         → MadeWrite line.call
     -- nobody has filled a part of its buffer
     pub no_streams : (pid room : ℕ) → pid < procs_of program → q.waits pid ≢ Stays (ReadsOn room)
+    -- and nobody is amid a call with a deadline
+    pub no_deadlines : (pid : ℕ) (timing : Timing) → pid < procs_of program
+        → q.waits pid ≢ Times timing
 
   -- each process has the end by which it makes the call of its place
   abbrev pub HasEnds : (Spot → Given) → Objects → Queued → Type 0
@@ -152,6 +204,14 @@ module _ (program : Program) where
             is = ap (λ (one : Option Line). next_of one before) is;
           })
 
+  -- whatever it waits for
+  place_follows : (waits : Halt) (before : ℕ)
+      → FollowsAt before (served_place program waits before)
+  place_follows Free before = served_follows before
+  place_follows (For what) before = served_follows before
+  place_follows (Stays amid) before = served_follows before
+  place_follows (Times timing) before = inl refl
+
   -- the first of a line are served, and one goes on
   pub serves_follow : (q : Queued) (what : Want) (units pid : ℕ) (line : Line) (values : List ℕ)
       → slice_get program.lines (q.place pid) ≡ Some line
@@ -161,7 +221,8 @@ module _ (program : Program) where
     where
       by : (test : Bool) → (other == pid) ≡ test → (served : Bool)
           → FollowsAt (q.place other) (if test then line.next
-          else (if served then served_at program (q.place other) else q.place other))
+          else (if served then served_place program (q.waits other) (q.place other)
+          else q.place other))
       by true is served =
           let same : other ≡ pid = grind (arith, nat_tests) in
           inr (record {
@@ -170,5 +231,5 @@ module _ (program : Program) where
             ends = ending.Done;
             is = refl;
           })
-      by false is true = served_follows (q.place other)
+      by false is true = place_follows (q.waits other) (q.place other)
       by false is false = inl refl
