@@ -52,18 +52,6 @@ impl WaitQueue {
         })
     }
 
-    /// The same line once more.
-    pub(crate) fn copy(&self) -> Result<WaitQueue, AllocError>
-        ensures { IfOk result (λ line. line ≡ self.now) }
-    {
-        Ok(WaitQueue {
-            next: self.next.clone()?,
-            prev: self.prev.clone()?,
-            stands: self.stands.clone()?,
-            count: self.count,
-        })
-    }
-
     /// The seats in line, the first to come first.
     pub(crate) fn order(&self) -> Result<Vec<u64>, AllocError>
         ensures { IfOk result (λ order. order.items ≡ self.now.order) }

@@ -32,18 +32,6 @@ impl TagTable {
         })
     }
 
-    /// The same entries once more, with the same room.
-    pub(crate) fn copy(&self) -> Result<TagTable, AllocError>
-        ensures entries { IfOk result (λ table. entries_of table ≡ entries_of self.now) }
-        ensures room { IfOk result (λ table. room_of table ≡ room_of self.now) }
-    {
-        Ok(TagTable {
-            slots: self.slots.clone()?,
-            first: self.first,
-            count: self.count,
-        })
-    }
-
     /// The entries, in their order.
     pub(crate) fn as_slice(&self) -> &[(Tag, u64)]
         ensures { result.now ≡ entries_of self.now }
