@@ -1,9 +1,9 @@
-"""Mistakes that no contract sees, so that a test, a scene or a size refuses each: with it in the place of the code the test fails, or
-what is played is answered otherwise. With the code itself each passes, as the gate has shown.
+"""Mistakes that no contract sees, so that a test, a scene, a size or a run refuses each: with it in the place of the code the test
+fails, or what is played is answered otherwise. With the code itself each passes, as the gate has shown.
 
 Nothing is proved, so what the crates keep of their proofs is not needed. To build costs far more than to run, so a test that is to
-fail N times stands N times in what is built, and a scene N times in what p9lab plays. What a size is answered is the same each time,
-and is played once.
+fail N times stands N times in what is built, and a scene N times in what p9lab plays. What a size is answered, and what a program
+writes on what lies in its folder, is the same each time, and is played once.
 """
 import glob
 import os
@@ -23,12 +23,15 @@ OTHERWISE = 5
 
 
 def look(mistake):
-    """Stops where the test of this mistake is not in its crate, its scene not in scenes/, or its size not in tests/programs/sizes."""
+    """Stops where the test of this mistake is not in its crate, its scene not in scenes/, its size not in tests/programs/sizes, or
+    its program not in crates/."""
     if mistake.refuser == "scene":
         scenes_of(mistake)
     elif mistake.refuser == "size":
         with tempfile.TemporaryDirectory() as cases:
             write_case(mistake, cases)
+    elif mistake.refuser == "run":
+        stored_run(mistake, TOP)
     else:
         home_of(mistake, TOP)
 
@@ -105,10 +108,31 @@ def answers_otherwise(mistake, made, times):
     return 0, f"status {ran.returncode}\n{ran.stdout[-2000:]}{ran.stderr[-2000:]}"
 
 
+def stored_run(mistake, top):
+    """The folder of its program, the words and the input that lie there, and what is to be written."""
+    folder = f"{top}/crates/{mistake.words}"
+    if not os.path.isfile(f"{folder}/stdout"):
+        raise Unfit(f"crates/{mistake.words} has no file stdout")
+    words, given, wanted = (read(f"{folder}/{it}") if os.path.isfile(f"{folder}/{it}") else "" for it in ("args", "stdin", "stdout"))
+    return folder, words.splitlines(), given, wanted
+
+
+def writes_otherwise(mistake, made, times):
+    """Whether its program writes something else on what lies in its folder, counted as so many times, and what was said where it
+    does not, or was not run."""
+    folder, words, given, wanted = stored_run(mistake, made)
+    ran = run(["rt", "try", "--", *words], given, cwd=folder)
+    if ran.stdout != wanted and "run=ended" in ran.stderr:
+        return times, ""
+    return 0, f"status {ran.returncode}\n{ran.stdout[-2000:]}{ran.stderr[-2000:]}"
+
+
 def fails_so(mistake, made, times):
     """How often its test fails, or what is played is answered otherwise, on this copy; and why that is not each time."""
     if mistake.refuser == "size":
         return answers_otherwise(mistake, made, times)
+    if mistake.refuser == "run":
+        return writes_otherwise(mistake, made, times)
     if mistake.refuser == "scene":
         return differs(f"{made}/crates/{PLAYER}", scenes_of(mistake), times)
     home, crate, rest = home_of(mistake, made)

@@ -14,6 +14,7 @@ A file is lines, each text on one of its own:
   refused by: test NAME      this test fails, of the crate or of one of tests_*
   refused by: scene NAME     this scene of scenes/ is answered otherwise
   refused by: size PART N    this size of tests/programs/sizes is answered otherwise
+  refused by: run NAME       this program writes something else than its file stdout, on its files args and stdin
   gate: always               each gate tries it
 
 Without `refused by:` the prover refuses it. It stands in the crate's mistakes/, or in must-fail/, whose mistakes `rt ci` tries with
@@ -27,7 +28,7 @@ import re
 from common import TOP, read
 from copies import crates_below
 
-PROVER, TYPE, TESTS = "prover", "type", ("test", "scene", "size")
+PROVER, TYPE, TESTS = "prover", "type", ("test", "scene", "size", "run")
 # What stands before the name of a function, the head of an `impl`, and where a type is declared.
 FUNCTION = re.compile(r"\s*(?:pub(?:\([^)]*\))? )?(?:const )?(?:unsafe )?fn (\w+)")
 IMPL = re.compile(r"impl(?:<.*?>)? (?:(?:\w+::)*(\w+)(?:<.*>)? for )?(\w+)")
