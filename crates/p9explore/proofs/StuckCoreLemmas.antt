@@ -32,7 +32,7 @@ use Rattle.p9explore.specs.ToldSteps.{StuckStepsAreTold}
 use Rattle.p9explore.specs.VerdictText.{head_text}
 
 -- what is shown to get stuck, in any order, does
-gets_stuck : {Position : Type 0} (system : System Position) (by : Order) (most states : ℕ)
+pub gets_stuck : {Position : Type 0} (system : System Position) (by : Order) (most states : ℕ)
     (movers : _) (others : Others) → HoldsIn system by most (verdict.Stuck states movers others)
     → ComesToStuck system (reverse movers.items)
 gets_stuck system order.Shortest most states movers others holds =

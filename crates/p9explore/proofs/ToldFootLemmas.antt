@@ -117,16 +117,21 @@ played_is : (program : Program) (moved past : List ℕ)
 played_is program [] past = refl
 played_is program (mover ∷ moved) past = played_is program moved (mover ∷ past)
 
+-- from the opening on, to its position
+pub comes_to : (program : Program) (moved : List ℕ)
+    → played program (opening_of program) moved
+    ≡ movers.position_of (system_of program) (reverse moved)
+comes_to program moved =
+    played_is program moved []
+    ∙ ap (movers.position_of (system_of program)) (after_is moved [] ∙ append-nil (reverse moved))
+
 -- so it is told where each sleeps that is parked
 pub foots_are_told : PlayedSchedulesAreOfCore → FootsAreTold
 foots_are_told back how program core moved text of_core is lists schedule shows =
     let past = core_run program (reverse moved) in
     let comes : played program (opening_of program) moved
     ≡ spot_of program (position_of core past)
-    = played_is program moved []
-    ∙ (ap (movers.position_of (system_of program))
-    (after_is moved [] ∙ append-nil (reverse moved))
-    ∙ (back program core (reverse moved) is lists schedule).comes) in
+    = comes_to program moved ∙ (back program core (reverse moved) is lists schedule).comes in
     all_parts program (position_of core past) how of_core (procs_of program) (omega arith) text
     (subst (λ (p : Position). ShowsFoot how program p text) comes shows)
     ∙ ap (λ (p : Position). waits_text how program p (procs_of program)) (sym comes)

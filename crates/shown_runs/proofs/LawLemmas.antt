@@ -44,17 +44,17 @@ module _ (program : Program) (given : Spot → Given) (objects : Objects)
     (are : AreItsObjects program objects) (is_program : IsProgram program)
     (shown : AreShownCalls program) (have : HaveEnds program given objects) where
   -- it came to a call that is never to be made, and changed nothing else by that
-  record StopsThere (movers : List ℕ) : Type 0 where
-    past : List ℕ
-    before : IsFollowed program given objects are is_program shown past
-    pid : ℕ
-    line : Line
-    is_at : IsAtCall program before.q pid line
-    never : line.call ≡ call.Never
-    same : (position_of (system_of program) movers).processes
+  pub record StopsThere (movers : List ℕ) : Type 0 where
+    pub past : List ℕ
+    pub before : IsFollowed program given objects are is_program shown past
+    pub pid : ℕ
+    pub line : Line
+    pub is_at : IsAtCall program before.q pid line
+    pub never : line.call ≡ call.Never
+    pub same : (position_of (system_of program) movers).processes
         ≡ (position_of (system_of program) past).processes
 
-  stops_there : (movers : List ℕ) → IsSchedule (system_of program) movers
+  pub stops_there : (movers : List ℕ) → IsSchedule (system_of program) movers
       → AreFewSteps program movers
       → (position_of (system_of program) movers).course ≡ course.Reached → StopsThere movers
   stops_there [] schedule few reached = absurd cc

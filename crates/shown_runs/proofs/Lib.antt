@@ -8,6 +8,7 @@ pub mod Idling
 pub mod LawLemmas
 pub mod Lifting
 pub mod MeetSteps
+pub mod NeverLemmas
 pub mod Opening
 pub mod OwnSteps
 pub mod PipePlayed

@@ -23,7 +23,7 @@ use Rattle.calls.specs.declared.process.Standing.TheVariants as standing
 use Rattle.calls.specs.declared.process.Want.TheVariants as want
 use Rattle.calls.specs.Machine.{system_of}
 use Rattle.calls.specs.Position.{Position}
-use Rattle.calls.specs.Program.{IsProgram, Program, is_stream_at}
+use Rattle.calls.specs.Program.{IsProgram, Program, is_stream_at, procs_of}
 use Rattle.call_machines.specs.IdleRuns.{HasStoppedIdle, IdleStopAtRest}
 use Rattle.call_machines.specs.Machine.{Next}
 use Rattle.call_machines.specs.Programs as machines
@@ -247,6 +247,20 @@ module _ (program : Program) (given : Spot → Given) (objects : Objects) where
     pub never : line.call ≡ call.Never
     pub there : IsAtPlace program given (with_choices objects choices) run pid place
 
+-- a process of the position is about to make a call that is never to be made
+pub record IsAtNever (program : Program) (at : Position) (pid : ℕ) : Type 0 where
+  pub process : Process
+  pub process_is : slice_get at.processes pid ≡ Some process
+  pub line : Line
+  pub line_is : slice_get program.lines process.place ≡ Some line
+  pub never : line.call ≡ call.Never
+
+-- one of the program's processes is
+pub record SomeIsAtNever (program : Program) (at : Position) : Type 0 where
+  pub pid : ℕ
+  pub low : pid < procs_of program
+  pub there : IsAtNever program at pid
+
 -- what is shown of each schedule of the explorer's machine, whatever values are given in
 -- rendezvous, where each process has the ends by which it calls
 abbrev pub OfEachSchedule : (Program → (Spot → Given) → Objects → List ℕ → Type 0) → Type 0
@@ -294,3 +308,18 @@ abbrev pub ReachedIsReached : Type 0
 ReachedIsReached =
     OfEachSchedule (λ program given objects movers.
     (shown_at program movers).course ≡ course.Reached → ComesToNever program given objects)
+
+-- and one of its processes is about to make such a call.
+abbrev pub ReachedAreAtNever : Type 0
+ReachedAreAtNever =
+    OfEachSchedule (λ program given objects movers.
+    (shown_at program movers).course ≡ course.Reached
+    → SomeIsAtNever program (shown_at program movers))
+
+-- Where the machine is stuck, and has reached no such call, no process is about to make one.
+abbrev pub StuckAreAtNone : Type 0
+StuckAreAtNone =
+    OfEachSchedule (λ program given objects movers.
+    (shown_at program movers).course ≡ course.Open
+    → ComesToStuck (system_of program) movers
+    → (pid : ℕ) → ¬ (IsAtNever program (shown_at program movers) pid))

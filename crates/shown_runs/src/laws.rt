@@ -2,8 +2,10 @@
 //! nothing: its contract is the law.
 ghost use Rattle.shown_runs.specs.ShownRuns.{
   NoneIsStuck,
+  ReachedAreAtNever,
   ReachedIsReached,
   ShownAreRuns,
+  StuckAreAtNone,
   StuckIsDeadlock,
 };
 
@@ -31,4 +33,12 @@ pub fn ends_only_if_runs_end()
 /// Where a schedule reaches what must not be reached, a run comes to that place.
 pub fn reached_is_reached()
     ensures { ReachedIsReached }
+{}
+
+/// One of the position's processes is then about to make a call that is never to be made. Where the
+/// machine is stuck, and has reached no such call, none is. So the places of its processes tell
+/// which of the two it is.
+pub fn places_tell_what_is_reached()
+    ensures reached { ReachedAreAtNever }
+    ensures stuck { StuckAreAtNone }
 {}
