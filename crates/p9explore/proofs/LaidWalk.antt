@@ -68,7 +68,7 @@ pub record IsKept (Holds : Devices → List Placed → List Marked → Type 0) :
   -- it holds at first
   pub opening : (procs rendez : ℕ)
       → Holds (no_devices procs rendez) (replicate procs goes_nowhere) []
-  -- with a space
+  -- still with a tag space besides
   pub spaces : (devices : Devices) (places : List Placed) (nevers : List Marked) (members : ℕ)
       → Holds devices places nevers → Holds (with_space devices members) places nevers
   -- with a semaphore more
@@ -78,7 +78,7 @@ pub record IsKept (Holds : Devices → List Placed → List Marked → Type 0) :
   pub pipes : (devices : Devices) (places : List Placed) (nevers : List Marked) (limit : ℕ)
       (mode : Mode) → HasLimit (pipe_size limit mode) → Holds devices places nevers
       → Holds (with_pipe devices (pipe_size limit mode)) places nevers
-  -- with timers
+  -- and with timers besides it
   pub clocks : (devices : Devices) (places : List Placed) (nevers : List Marked)
       → Holds devices places nevers → Holds (record devices { has_clock = true }) places nevers
   -- where an answer leads elsewhere

@@ -1,6 +1,6 @@
 -- What an answer that shows a schedule says of the library's calls, in a script whose calls are
--- those of `shown_runs`: semaphores, rendezvous, messages of pipes, notes, ticks, choices and loops,
--- without a deadline.
+-- those of `shown_runs`: semaphores, rendezvous, messages of pipes, notes, ticks, choices and
+-- loops, without a deadline.
 use Rattle.std.specs.Prelude.{◌≡◌, ◌++◌, ℕ, List, Option, reverse}
 use Rattle.std.specs.Io.KnownBytes.{Appends}
 use Rattle.scripts.specs.Device.{Devices}

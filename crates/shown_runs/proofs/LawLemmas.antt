@@ -45,15 +45,23 @@ module _ (program : Program) (given : Spot → Given) (objects : Objects)
     (shown : AreShownCalls program) (have : HaveEnds program given objects) where
   -- it came to a call that is never to be made, and changed nothing else by that
   pub record StopsThere (movers : List ℕ) : Type 0 where
+    -- the movers before the last one
     pub past : List ℕ
+    -- the calls come to where those lead
     pub before : IsFollowed program given objects are is_program shown past
+    -- the process that the last one moves
     pub pid : ℕ
+    -- the line where this process is
     pub line : Line
+    -- it has not made the call there
     pub is_at : IsAtCall program before.q pid line
+    -- which is never to be made
     pub never : line.call ≡ call.Never
+    -- the processes are as they were before
     pub same : (position_of (system_of program) movers).processes
         ≡ (position_of (system_of program) past).processes
 
+  -- so does each schedule that has reached it
   pub stops_there : (movers : List ℕ) → IsSchedule (system_of program) movers
       → AreFewSteps program movers
       → (position_of (system_of program) movers).course ≡ course.Reached → StopsThere movers
