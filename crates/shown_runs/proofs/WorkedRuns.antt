@@ -1,8 +1,9 @@
 -- Schedules of the explorer's machine and the runs that make them, computed: what each row of the
 -- definitions says.
 use Rattle.std.proofs.Common.{◌≡◌, ◌<◌, inl, inr, ℕ, zero, suc, Bool, true, false, Some, Ok}
-use Rattle.std.proofs.Common.{None, List, [], ◌∷◌, ap, refl, arith}
+use Rattle.std.proofs.Common.{None, List, [], ◌∷◌, ap, ◌∙◌, refl, arith}
 use Rattle.std.specs.List.{AllByRecursion}
+use Rattle.std.specs.Prelude.{slice_get}
 use Rattle.kernel_lock.specs.declared.locked.Locked.{Locked}
 use Rattle.kernel_lock.specs.Seats.{limit_of, opening_of}
 use Rattle.sync_base.specs.declared.mode.Mode.{Mode}
@@ -46,9 +47,10 @@ use Rattle.timer_machines.specs.Requests.TimedRequest.{ToTimers}
 use Rattle.timed_machines.specs.TimedEnds.{IsTick}
 use Rattle.explored_calls.specs.LibraryCalls.{Given, Spot, TicksSo}
 use Rattle.explored_calls.specs.TimedLibrary.{timed_library_of}
-use Rattle.shown_runs.specs.ShownRuns.{AreFewSteps, ComesToNever, HasPut, IsAsShown, IsAtPlace}
-use Rattle.shown_runs.specs.ShownRuns.{IsShownCall, LibraryStep, SleepsAtPipe, SleepsFor}
-use Rattle.shown_runs.specs.ShownRuns.{SleepsForPartner, WaitsAtPipe, shown_at, with_choices}
+use Rattle.shown_runs.specs.ShownRuns.{AreFewSteps, ComesToNever, HasPut, IsAsShown, IsAtNever}
+use Rattle.shown_runs.specs.ShownRuns.{IsAtPlace, IsShownCall, LibraryStep, SleepsAtPipe}
+use Rattle.shown_runs.specs.ShownRuns.{SleepsFor, SleepsForPartner, SomeIsAtNever, WaitsAtPipe}
+use Rattle.shown_runs.specs.ShownRuns.{shown_at, with_choices}
 
 -- ---- programs
 
@@ -209,6 +211,32 @@ it_turns_away = refl
 
 it_reaches : (shown_at forked (0 ∷ 2 ∷ [])).course ≡ course.Reached
 it_reaches = refl
+
+-- whoever reached it is still at that call
+it_is_at_never : SomeIsAtNever forked (shown_at forked (0 ∷ 2 ∷ []))
+it_is_at_never =
+    record {
+      pid = 0;
+      low = (let low : 0 < 2 = omega arith in low);
+      there = record {
+        process = stands_at 1;
+        process_is = refl;
+        line = line_to call.Never 9 9;
+        line_is = refl;
+        never = refl;
+      };
+    }
+
+-- and nobody is who waits for a unit
+who_waits_is_not : IsAtNever stuck (shown_at stuck (1 ∷ 0 ∷ [])) 0 → ⊥
+who_waits_is_not there =
+    let both : Some (waits_at 0 0) ≡ Some there.process = there.process_is in
+    let same : waits_at 0 0 ≡ there.process = cc in
+    let found : Some (line_to (call.Acquire 0 None) 9 8) ≡ Some there.line =
+    ap (λ (p : Process). slice_get stuck.lines p.place) same ∙ there.line_is in
+    let line : line_to (call.Acquire 0 None) 9 8 ≡ there.line = cc in
+    let never : call.Acquire 0 None ≡ call.Never = ap (λ (l : Line). l.call) line ∙ there.never in
+    cc
 
 it_has_ticked : (shown_at ticking (0 ∷ [])).processes ≡ stands_at 9 ∷ stands_at 1 ∷ []
 it_has_ticked = refl
