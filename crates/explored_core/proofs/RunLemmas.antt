@@ -15,13 +15,12 @@ use Rattle.searches.specs.Schedule as movers
 use Rattle.searches.specs.Stuck.{goes_on, has_ended, is_stuck, some_below}
 use Rattle.schedules.specs.Position.{Position as CorePosition, event_of}
 use Rattle.schedules.specs.Position as scheduled
-use Rattle.schedules.specs.Program.{Program as CoreProgram, top_of}
+use Rattle.schedules.specs.Program.{Program as CoreProgram}
 use Rattle.schedules.specs.Program as listed
 use Rattle.schedules.specs.Schedule.{IsSchedule, position_of}
 use Rattle.schedules.proofs.EndLemmas.{answer_is, before, parked_same}
 use Rattle.schedules.proofs.PathLemmas.{Goes, after_is, goes_of, next_schedule, ready_of}
 use Rattle.schedules.proofs.ScheduleLemmas.{maker_within, of_calls_of, sized_of}
-use Rattle.schedules.proofs.TopLemmas.{top_is}
 use Rattle.schedules.proofs.ValidPositions.{IsOfCalls}
 use Rattle.calls.specs.Machine.{system_of}
 use Rattle.calls.specs.Position.{Position, after_of, status_of}
@@ -41,22 +40,21 @@ pub do_the_same : CoreProgramsDoTheSame
 do_the_same program core is of_core =
     record {
       opens = opens program core of_core;
-      does = λ past pid schedule low. does program core is of_core (top_of core)
-          (position_of core past) (sized_of core past schedule) (of_calls past schedule) pid low;
-      can = λ past pid schedule low. can program core is of_core (top_of core)
-          (position_of core past) (sized_of core past schedule) (of_calls past schedule) pid low;
-      leaves = λ past pid schedule low. leaves program core is of_core (top_of core)
-          (position_of core past) (sized_of core past schedule) (of_calls past schedule) pid low;
-      no_others = λ past mover schedule high low. no_others program core is of_core (top_of core)
+      does = λ past pid schedule low. does program core is of_core (position_of core past)
+          (sized_of core past schedule) (of_calls past schedule) pid low;
+      can = λ past pid schedule low. can program core is of_core (position_of core past)
+          (sized_of core past schedule) (of_calls past schedule) pid low;
+      leaves = λ past pid schedule low. leaves program core is of_core (position_of core past)
+          (sized_of core past schedule) (of_calls past schedule) pid low;
+      no_others = λ past mover schedule high low. no_others program core is of_core
           (position_of core past) (sized_of core past schedule) (of_calls past schedule) mover high
           low;
-      world = λ past schedule. world_is program core is of_core (top_of core)
-          (position_of core past) (sized_of core past schedule) (of_calls past schedule);
+      world = λ past schedule. world_is program core is of_core (position_of core past)
+          (sized_of core past schedule) (of_calls past schedule);
     }
   where
-    of_calls : (past : List Entry) → IsSchedule core past
-        → IsOfCalls core (top_of core) (position_of core past)
-    of_calls past schedule = of_calls_of core (top_of core) (top_is core) past schedule
+    of_calls : (past : List Entry) → IsSchedule core past → IsOfCalls core (position_of core past)
+    of_calls past schedule = of_calls_of core past schedule
 
 module _ (program : Program) (core : CoreProgram) (is : IsProgram program)
     (of_core : IsOfCore program core) where

@@ -1,12 +1,10 @@
 -- What a process can do in the machine that is explored, where a schedule of the core is here.
-use Rattle.std.proofs.Common.{◌≡◌, ◌⊎◌, inl, inr, ◌≤◌, ◌<◌, ◌+◌, ◌-◌, ◌&&◌, ◌||◌, ◌==◌, ℕ, zero}
-use Rattle.std.proofs.Common.{suc}
+use Rattle.std.proofs.Common.{◌≡◌, ◌⊎◌, inl, inr, ◌≤◌, ◌<◌, ◌+◌, ◌-◌, ◌&&◌, ◌||◌, ℕ, zero, suc}
 use Rattle.std.proofs.Common.{Bool, true, false, nat_lt, if◌then◌else◌, Option, Some, None, List}
 use Rattle.std.proofs.Common.{[], length, map, get_or, replicate, refl, sym, ◌∙◌, ap, subst, arith}
 use Rattle.std.specs.List.{list_all, list_any, range_with_len}
 use Rattle.std.specs.Prelude.{slice_get}
 use Rattle.std.proofs.lemmas.Bool.Decides.{nat_tests}
-use Rattle.sync_base.specs.declared.ids.RendezId.{RendezId}
 use Rattle.sleep_core.specs.declared.answer.Answer.{Answer}
 use Rattle.sleep_core.specs.declared.answer.Answer.TheVariants as answer
 use Rattle.sleep_core.specs.declared.event.Event.{Event}
@@ -29,10 +27,8 @@ use Rattle.schedules.specs.Position.{status_at}
 use Rattle.schedules.specs.Position as scheduled
 use Rattle.schedules.specs.Program.{Program as CoreProgram, calls_of, event_in, proc}
 use Rattle.schedules.specs.Program as listed
-use Rattle.schedules.specs.Code.{sleep_phase, wakeup_phase}
-use Rattle.schedules.proofs.MoveLemmas.{Fits}
 use Rattle.schedules.proofs.StatusLemmas.{goes_by_event}
-use Rattle.schedules.proofs.ValidPositions.{IsOfCalls, IsSized}
+use Rattle.schedules.proofs.ValidPositions.{Fits, IsOfCalls, IsSized}
 use Rattle.calls.specs.declared.course.Course.TheVariants as course
 use Rattle.calls.specs.declared.line.Line.{Line}
 use Rattle.calls.specs.declared.process.Process.{Process}
@@ -114,27 +110,6 @@ event_is pid phase.Out made = refl
 event_is pid (phase.Owing r l) made = refl
 event_is pid (phase.Holding q r l) made = refl
 
--- the number of a phase that holds a sleeper is of no sleep
-pub not_held : (sleeper : ℕ) (r : RendezId) (t : ℕ) → sleep_phase r t (8 + sleeper) ≡ phase.Idle
-not_held sleeper r t = grind (arith, nat_tests)
-
--- and of a wakeup that holds this one
-pub held_is : (sleeper : ℕ) (r : RendezId) (l : ℕ)
-    → wakeup_phase r l (8 + sleeper) ≡ phase.Holding (proc sleeper) r l
-held_is sleeper r l =
-    by_tests (8 + sleeper == 0) (nat_lt (8 + sleeper) 8) (8 + sleeper - 8)
-    (grind (arith, nat_tests)) (grind (arith, nat_tests)) (omega arith)
-  where
-    by_tests : (none small : Bool) (n : ℕ) → none ≡ false → small ≡ false → n ≡ sleeper
-        → (if none then phase.Idle
-        else if small then phase.Owing r l else phase.Holding (proc n) r l)
-        ≡ phase.Holding (proc sleeper) r l
-    by_tests none small n is_none is_small same =
-        ap (λ (b : Bool). if b then phase.Idle
-        else if small then phase.Owing r l else phase.Holding (proc n) r l) is_none
-        ∙ (ap (λ (b : Bool). if b then phase.Owing r l else phase.Holding (proc n) r l) is_small
-        ∙ ap (λ (m : ℕ). phase.Holding (proc m) r l) same)
-
 -- the phase of a call that stands so
 phase_is : (stage : Phase) (made : CoreCall) → Fits (Some made) stage
     → phase_in (made_of made) (standing_in stage) ≡ stage
@@ -150,9 +125,8 @@ phase_is phase.Woken made fits = refl
 phase_is phase.Out made fits = refl
 phase_is (phase.Owing r l) (calling.Wakeup q v) fits = sym fits
 phase_is (phase.Owing r l) made fits = absurd cc
-phase_is (phase.Holding p r l) (calling.Wakeup q v) fits = sym (fits ∙ held_is p.0 q v)
-phase_is (phase.Holding p r l) (calling.Sleep q v) fits =
-    absurd (let none = fits ∙ not_held p.0 q v in cc)
+phase_is (phase.Holding p r l) (calling.Wakeup q v) fits = sym fits
+phase_is (phase.Holding p r l) (calling.Sleep q v) fits = absurd cc
 phase_is (phase.Holding p r l) (calling.Note to set) fits = absurd cc
 phase_is (phase.Holding p r l) calling.Drain fits = absurd cc
 
@@ -175,8 +149,8 @@ await_same true = refl
 await_same false = refl
 
 module _ (program : Program) (core : CoreProgram) (is : IsProgram program)
-    (of_core : IsOfCore program core) (top : ℕ) (at : CorePosition) (sized : IsSized core at)
-    (of_calls : IsOfCalls core top at) where
+    (of_core : IsOfCore program core) (at : CorePosition) (sized : IsSized core at)
+    (of_calls : IsOfCalls core at) where
   -- the spot of the position
   abbrev pub spot : Position
   spot = spot_of program at

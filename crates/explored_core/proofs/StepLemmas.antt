@@ -34,8 +34,7 @@ use Rattle.schedules.specs.Position.{Position as CorePosition, call_of, is_idle,
 use Rattle.schedules.specs.Position as scheduled
 use Rattle.schedules.specs.Program.{Program as CoreProgram, event_in, proc}
 use Rattle.schedules.specs.Program as listed
-use Rattle.schedules.proofs.MoveLemmas.{Fits}
-use Rattle.schedules.proofs.ValidPositions.{IsOfCalls, IsSized}
+use Rattle.schedules.proofs.ValidPositions.{Fits, IsOfCalls, IsSized}
 use Rattle.calls.specs.declared.course.Course.TheVariants as course
 use Rattle.calls.specs.declared.line.Line.{Line}
 use Rattle.calls.specs.declared.process.Process.{Process}
@@ -54,8 +53,7 @@ use Rattle.explored_core.specs.Spots.{place_after, posted_in, process_at, proces
 use Rattle.explored_core.specs.Spots.{spot_of, standing_in}
 use Rattle.explored_core.proofs.LineLemmas.{is_named, one_more}
 use Rattle.explored_core.proofs.ListLemmas.{becomes_one, below, found_at}
-use Rattle.explored_core.proofs.SpotLemmas.{IsCalling, calls_or_ended, held_is, line_place}
-use Rattle.explored_core.proofs.SpotLemmas.{not_held}
+use Rattle.explored_core.proofs.SpotLemmas.{IsCalling, calls_or_ended, line_place}
 use Rattle.explored_core.proofs.SpotLemmas.{plain, process_is, world_by}
 
 -- the number of a process that is posted
@@ -106,8 +104,8 @@ out_of r pid s =
     }
 
 module _ (program : Program) (core : CoreProgram) (is : IsProgram program)
-    (of_core : IsOfCore program core) (top : ℕ) (at : CorePosition) (sized : IsSized core at)
-    (of_calls : IsOfCalls core top at) where
+    (of_core : IsOfCore program core) (at : CorePosition) (sized : IsSized core at)
+    (of_calls : IsOfCalls core at) where
   abbrev s : State
   s = at.world
 
@@ -777,9 +775,8 @@ module _ (program : Program) (core : CoreProgram) (is : IsProgram program)
         marks r l names p
         (same_procs p.0 (subst (IsPhaseIn (listed.procs_of core) core.rendez) so
         (sized.within pid)).0)
-        (so ∙ (fits ∙ held_is p.0 r l))
-    step_in (phase.Holding p q v) (calling.Sleep r t) so fits names =
-        absurd (let none = fits ∙ not_held p.0 r t in cc)
+        (so ∙ fits)
+    step_in (phase.Holding p q v) (calling.Sleep r t) so fits names = absurd cc
     step_in (phase.Holding p q v) (calling.Note other set) so fits names = absurd cc
     step_in (phase.Holding p q v) calling.Drain so fits names = absurd cc
 
@@ -794,15 +791,15 @@ module _ (program : Program) (core : CoreProgram) (is : IsProgram program)
       (slice_get from.processes (pid - procs_of program)))
       (told_low pid (procs_of program) low)
       ∙ (ap (went program from pid)
-      (process_is program core is of_core top at sized of_calls pid low)
-      ∙ by_line (calls_or_ended program core is of_core top at sized of_calls pid low)))
+      (process_is program core is of_core at sized of_calls pid low)
+      ∙ by_line (calls_or_ended program core is of_core at sized of_calls pid low)))
     where
-      by_line : IsCalling program core is of_core top at sized of_calls pid
+      by_line : IsCalling program core is of_core at sized of_calls pid
           ⊎ ((call_of core at pid ≡ None)
-          × (slice_get program.lines (line_place program core is of_core top at sized of_calls pid)
+          × (slice_get program.lines (line_place program core is of_core at sized of_calls pid)
           ≡ None))
           → went_by program from pid (standing_in (phase_of s pid))
-          (slice_get program.lines (line_place program core is of_core top at sized of_calls pid))
+          (slice_get program.lines (line_place program core is of_core at sized of_calls pid))
           ≡ spot_of program (scheduled.after_of core at pid)
       by_line (inr none) =
           ap (went_by program from pid (standing_in (phase_of s pid))) none.1

@@ -12,11 +12,10 @@ use Rattle.searches.proofs.AlikeLemmas.{reaches_many, turned}
 use Rattle.searches.proofs.ImageLemmas.{are_alike, verdicts_are_one}
 use Rattle.schedules.specs.Machine as scheduled
 use Rattle.schedules.specs.Position.{Position as CorePosition, place_of}
-use Rattle.schedules.specs.Program.{Program as CoreProgram, calls_of, top_of}
+use Rattle.schedules.specs.Program.{Program as CoreProgram, calls_of}
 use Rattle.schedules.specs.Schedule.{bare}
 use Rattle.schedules.proofs.MoverLemmas.{reached_as}
 use Rattle.schedules.proofs.ReachedLemmas.{of_calls_reached, sized_reached}
-use Rattle.schedules.proofs.TopLemmas.{top_is}
 use Rattle.schedules.proofs.ValidPositions.{IsOfCalls, IsSized}
 use Rattle.schedules.proofs.VerdictLemmas.{holds_so, large_so}
 use Rattle.calls.specs.declared.process.Process.{Process}
@@ -58,8 +57,8 @@ module _ (program : Program) (core : CoreProgram) (is : IsProgram program)
     sized : IsSized core at
     sized = sized_reached core at (reached_as core at reached)
 
-    of_calls : IsOfCalls core (top_of core) at
-    of_calls = of_calls_reached core (top_of core) (top_is core) at (reached_as core at reached)
+    of_calls : IsOfCalls core at
+    of_calls = of_calls_reached core at (reached_as core at reached)
 
     -- it has no returned levels
     bare_same : bare at ≡ at
@@ -67,7 +66,7 @@ module _ (program : Program) (core : CoreProgram) (is : IsProgram program)
 
     spot_world : world_at program (spot_of program at) ≡ at.world
     spot_world =
-        world_is program core is of_core (top_of core) at sized of_calls
+        world_is program core is of_core at sized of_calls
         ∙ ap (λ (p : CorePosition). p.world) bare_same
 
   -- a position is told by its spot
@@ -109,11 +108,11 @@ module _ (program : Program) (core : CoreProgram) (is : IsProgram program)
       record {
         movers = of_core.procs;
         opens = opens program core of_core;
-        can = λ at mover reached there. can program core is of_core (top_of core) at
-            (sized at reached) (of_calls at reached) mover
+        can = λ at mover reached there. can program core is of_core at (sized at reached)
+            (of_calls at reached) mover
             (let all = of_core.procs in omega (arith, there, all));
-        leaves = λ at mover reached moves. leaves program core is of_core (top_of core) at
-            (sized at reached) (of_calls at reached) mover
+        leaves = λ at mover reached moves. leaves program core is of_core at (sized at reached)
+            (of_calls at reached) mover
             (let there = moves.there in let all = of_core.procs in omega (arith, there, all));
         tells = told_by_spot;
       }
