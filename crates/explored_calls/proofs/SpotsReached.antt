@@ -20,7 +20,6 @@ use Rattle.object_machines.specs.ObjectCalls.{Objects, object_calls}
 use Rattle.object_machines.specs.ObjectCalls.{ObjectOut}
 use Rattle.object_machines.specs.ObjectEnds.{BeginsBy}
 use Rattle.object_machines.specs.ObjectEnds.{WaitsIn}
-use Rattle.timed_machines.specs.TimedCalls.TimedCall.{Tick}
 use Rattle.timed_machines.specs.TimedCalls.TimedOut.{FromCall, FromTick}
 use Rattle.timed_machines.specs.TimedEnds.{BeginsTimed}
 use Rattle.timed_machines.specs.TimedObjects.{AreTimedPrograms}

@@ -6,7 +6,6 @@ use Rattle.std.proofs.Common.{refl, sym, ap, ◌∙◌, subst, arith}
 use Rattle.std.specs.Prelude.{slice_set}
 use Rattle.std.proofs.lemmas.Bool.Decides.{nat_tests}
 use Rattle.sync_base.specs.declared.ids.Pid.{Pid}
-use Rattle.sync_base.specs.declared.note.Note.TheVariants.{Expired}
 use Rattle.sync_base.specs.NoteSet.{no_notes}
 use Rattle.timer_list.specs.declared.due.Due.{Due as SeatDue}
 use Rattle.timer_list.specs.declared.timer_object.Timer.{Timer as SeatTimer}
@@ -29,7 +28,7 @@ use Rattle.call_machines.specs.Grain.{Grain, outcome_by}
 use Rattle.call_machines.specs.Grain.Grain.{Heard}
 use Rattle.call_machines.specs.Machine.{Outcome}
 use Rattle.call_machines.specs.Programs.{ProgramState}
-use Rattle.call_machines.specs.Programs.ProgramState.{Ended, In}
+use Rattle.call_machines.specs.Programs.ProgramState.{In}
 use Rattle.call_machines.specs.Runs.{procs}
 use Rattle.timer_machines.specs.Requests.{TimedReply, TimedRequest}
 use Rattle.timer_machines.specs.Requests.TimedReply.{FromTimers}
@@ -149,13 +148,12 @@ module _ (program : Program) (is_program : IsProgram program) (covered : IsCover
         (subst (IsKind program pid
         (timed_arrived program is_program covered given objects pid kind.line.next)) (sym phase)
         landed.kind)
-        (puts_none program is_program covered given objects its spot now at is kind)
-        landed.quiet
+        (puts_none program is_program covered given objects its spot now at is kind) landed.quiet
         (λ sema none. waits_none program is_program covered given objects its spot now at is kind
         sema) (λ none. out_of program is_program covered given objects its spot now at is kind)
         (stays_so w.object.timers pid _ (are.timers pid low
-        ∙ ap (seat_timer pid) (own_unset program is_program covered given objects its spot now at
-        is kind ∙ sym (ap timer_in phase))))
+        ∙ ap (seat_timer pid) (own_unset program is_program covered given objects its spot now at is
+        kind ∙ sym (ap timer_in phase))))
       where
         landed : Lands program is_program covered given objects
             (granted_in program objects w.object.device pid) pid
@@ -294,8 +292,8 @@ module _ (program : Program) (is_program : IsProgram program) (covered : IsCover
           → Follow (Heard (ToTimers (Expire now))
           (FromTimers (answer_to w.object.timers (Expire now))))
       taken_comes more followed ticking =
-          comes_to program is_program covered given objects its (taken more) (Heard (ToTimers
-          (Expire now))
+          comes_to program is_program covered given objects its (taken more)
+          (Heard (ToTimers (Expire now))
           (FromTimers (answer_to w.object.timers (Expire now))))
           (In spot (Tick now (Telling (count + 1) to))) came followed
           (fits_own program objects (inner_view program is_program covered given objects w) ran
@@ -306,8 +304,8 @@ module _ (program : Program) (is_program : IsProgram program) (covered : IsCover
           (Timed spot.place (Timing.Tells due.seat more) no_notes)
           (at_one due.seat (ran_out (m.phase due.seat)) m.phase) far))
           (fits.notes pid low) (λ other far. refl) refl refl
-          (λ sema none. waits_none program is_program covered given objects its spot now (Asks
-          count) is kind sema)
+          (λ sema none. waits_none program is_program covered given objects its spot now
+          (Asks count) is kind sema)
           (λ none. out_of program is_program covered given objects its spot now (Asks count) is
           kind))
           (pipes_stay objects program w.object.device.pipes (λ n. inner (w.state n)) pipes pid
@@ -559,8 +557,9 @@ module _ (program : Program) (is_program : IsProgram program) (covered : IsCover
         by_found (FindsNone none said stays) =
             record {
               none = none;
-              back_at = sym (goes_to program is_program covered given objects its spot now (Asks
-                  count) is kind _
+              back_at =
+                  sym (goes_to program is_program covered given objects its spot now (Asks count) is
+                  kind _
                   ∙ (ap (λ (reply : TimerReply).
                   (timed program is_program covered given objects).machine.goes_on
                   (In spot (Tick now (Asks count))) (Outcome.Replied (FromTimers reply))) said

@@ -1,6 +1,6 @@
 -- Where a process is that ticks, and what stays by a move of a tick: it has put no write, waits at
 -- no object, and its own timer is not set.
-use Rattle.std.proofs.Common.{◌≡◌, ◌≢◌, ◌⊎◌, inl, inr, ℕ, zero, suc, ◌-◌, ◌<◌}
+use Rattle.std.proofs.Common.{◌≡◌, ◌≢◌, ◌⊎◌, inl, inr, ℕ, zero, suc, ◌<◌}
 use Rattle.std.proofs.Common.{true, false, Option, Some, None, length}
 use Rattle.std.proofs.Common.{refl, ap, ◌∙◌, subst}
 use Rattle.std.specs.Prelude.{slice_get}
@@ -26,7 +26,6 @@ use Rattle.object_machines.specs.ObjectCalls.{ObjectReply, ObjectRequest}
 use Rattle.object_machines.specs.ObjectCalls.{Objects, object_calls}
 use Rattle.object_machines.specs.ObjectCalls.ObjectCall.{Chooses, InSpace}
 use Rattle.object_machines.specs.OwnCalls.ChoiceState.{HasChosen}
-use Rattle.object_machines.specs.OwnCalls.OwnState.{Done}
 use Rattle.timed_machines.specs.TimedCalls.{call_does, timed_calls}
 use Rattle.timed_machines.specs.TimedCalls.TimedCall.{Tick}
 use Rattle.timed_machines.specs.TimedObjects.{TimedObjectCall}
@@ -71,8 +70,8 @@ module _ (program : Program) where
   tick_out spot now (Telling count to) = refl
 
 -- a process that has chosen has put no write, and is awake
-pub hook_quiet : (objects : Objects) (spot : Spot) → IsQuiet objects (In spot (Chooses (HasChosen
-    true)))
+pub hook_quiet : (objects : Objects) (spot : Spot) → IsQuiet objects
+    (In spot (Chooses (HasChosen true)))
 hook_quiet objects spot = record { puts = λ pipe. refl; awake = tt }
 
 module _ (program : Program) (is_program : IsProgram program) (covered : IsCovered program)
@@ -186,8 +185,8 @@ module _ (program : Program) (is_program : IsProgram program) (covered : IsCover
           (covered.ticks spot.place kind.line kind.line_is)).0
 
   -- where it is known where the process is
-  pub comes_to : (next : Running) (moved : Grain (TimedRequest ObjectRequest) (TimedReply
-      ObjectReply))
+  pub comes_to : (next : Running) (moved : Grain (TimedRequest ObjectRequest)
+      (TimedReply ObjectReply))
       (now_state : ProgramState Spot TimedObjectCall)
       → (timed program is_program covered given objects).machine.goes_on (w.state pid)
       (outcome_by moved) ≡ now_state

@@ -75,8 +75,8 @@ module _ (program : Program) (is_program : IsProgram program) (covered : IsCover
     told_comes : (more : ℕ) (now_state : ProgramState Spot TimedObjectCall) (phase : Phase)
         → to.0 < procs_of program
         → m.phase pid ≡ Timed spot.place (Timing.Tells to.0 more) no_notes
-        → settles_tick program is_program covered given objects its spot now (asks_on (procs
-        (object_calls objects))
+        → settles_tick program is_program covered given objects its spot now
+        (asks_on (procs (object_calls objects))
         (procs (object_calls objects)) now count) ≡ now_state
         → (if nat_lt 0 more then Timed spot.place (Timing.Expires more) no_notes
         else Is kind.line.next) ≡ phase
@@ -154,8 +154,8 @@ module _ (program : Program) (is_program : IsProgram program) (covered : IsCover
             (inner now_state)) (sym (at_self pid phase m.phase)) own)
             (λ other far. sym (at_else pid other phase m.phase far)) (fits.notes pid low)
             (λ other far. refl) refl refl
-            (λ sema none. waits_none program is_program covered given objects its spot now (Telling
-            count to) is kind sema)
+            (λ sema none. waits_none program is_program covered given objects its spot now
+            (Telling count to) is kind sema)
             (λ none. out_of program is_program covered given objects its spot now (Telling count to)
             is kind)
 
@@ -171,8 +171,8 @@ module _ (program : Program) (is_program : IsProgram program) (covered : IsCover
         → Follow (Posted to (only Expired))
     asks_on_comes more phase there some phase_is on after_is unset aloof ticking =
         told_comes more (In spot (Tick now (Asks count))) phase there phase_is
-        (ap (λ (test : Bool). settles_tick program is_program covered given objects its spot now (if
-        test then Ticked count else Asks count)) on)
+        (ap (λ (test : Bool). settles_tick program is_program covered given objects its spot now
+        (if test then Ticked count else Asks count)) on)
         after_is unset
         (by_count (λ (s : ProgramState Spot ObjectCall). IsPhase program
         (granted_in program objects w.object.device pid) pid s phase) count some aloof)
@@ -195,8 +195,8 @@ module _ (program : Program) (is_program : IsProgram program) (covered : IsCover
         told_comes more
         (timed_arrived program is_program covered given objects pid kind.line.next)
         (Is kind.line.next) there phase_is
-        (ap (λ (test : Bool). settles_tick program is_program covered given objects its spot now (if
-        test then Ticked count else Asks count)) all
+        (ap (λ (test : Bool). settles_tick program is_program covered given objects its spot now
+        (if test then Ticked count else Asks count)) all
         ∙ over_at program is_program covered given objects its spot now count kind.line kind.by
         kind.line_is)
         (ap (λ (test : Bool). if test then Timed spot.place (Timing.Expires more) no_notes

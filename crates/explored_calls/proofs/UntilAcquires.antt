@@ -162,17 +162,17 @@ module _ (program : Program) (is_program : IsProgram program) (covered : IsCover
               (FromDevice (BySema (hold_answer (sema_state objects w.object.device number)
               (Alone (Acquire pid))))))
           by_step step =
-              begun_to program is_program covered given objects its spot until (Heard (ToDevice
-              (OfSema number (Alone (Acquire pid))))
+              begun_to program is_program covered given objects its spot until
+              (Heard (ToDevice (OfSema number (Alone (Acquire pid))))
               (FromDevice (BySema first_reply))) (takes Begun) after_first is kind refl
               first_object refl refl (λ pipe. refl)
               (begun_quiet program is_program covered given objects its spot until after_first
               (record { puts = λ pipe. refl; awake = tt })) step
-              (begun_kind program is_program covered given objects its spot until (Begins (takes
-              Begun)) kind after_first first_object
+              (begun_kind program is_program covered given objects its spot until
+              (Begins (takes Begun)) kind after_first first_object
               (step.followed.next.phase pid) (first_so first_reply.first)
-              (own_phase program is_program covered given objects its spot until (machines.follows
-              (object_calls objects)
+              (own_phase program is_program covered given objects its spot until
+              (machines.follows (object_calls objects)
               (library_program program given) spot after_first (object_does objects after_first))
               first_object (at_one pid (w.notes pid) w.notes) step.followed.next
               step.followed.fits) (step.timer ∙ kind.so.1))
@@ -224,16 +224,16 @@ module _ (program : Program) (is_program : IsProgram program) (covered : IsCover
               × (has_notes (w.notes pid) ≡ true) → Follow grain
           by_sleep (inl woken) =
               subst Follow (sym woken)
-              (slept_to program is_program covered given objects its spot until Woken (takes (Waits
-              count)) (takes Asking) failed None is kind refl
+              (slept_to program is_program covered given objects its spot until Woken
+              (takes (Waits count)) (takes Asking) failed None is kind refl
               w.object.device refl refl (λ pipe. refl) (sema_quiet Asking)
               (acquires.wakes program is_program covered given objects v pipes m follows fits pid
               low number there spot kind.by kind.line kind.line_is until.moment made count
               (ap inner is) clocked) refl)
           by_sleep (inr noted) =
               subst Follow (sym noted.0)
-              (slept_to program is_program covered given objects its spot until (Noted (w.notes
-              pid)) (takes (Waits count))
+              (slept_to program is_program covered given objects its spot until
+              (Noted (w.notes pid)) (takes (Waits count))
               (takes (Leaving (fault.Interrupted (w.notes pid)))) failed
               (Some (fault.Interrupted (w.notes pid))) is kind refl
               w.object.device refl refl (λ pipe. refl)
@@ -258,8 +258,8 @@ module _ (program : Program) (is_program : IsProgram program) (covered : IsCover
       waits_takes (Leaving (fault.Interrupted set)) failed is kind made phase may fine =
           subst Follow (sym (only_asks (timed program is_program covered given objects) w.object
           (w.notes pid) _ grain (ToDevice (OfSema number (Alone (Leave pid)))) refl may fine))
-          (slept_to program is_program covered given objects its spot until _ (takes (Leaving
-          (fault.Interrupted set))) (object_goes_on objects
+          (slept_to program is_program covered given objects its spot until _
+          (takes (Leaving (fault.Interrupted set))) (object_goes_on objects
           (takes (Leaving (fault.Interrupted set)))
           (Outcome.Replied (BySema (hold_answer (sema_state objects w.object.device number)
           (Alone (Leave pid)))))) failed failed is kind refl

@@ -19,7 +19,7 @@ use Rattle.call_machines.specs.Machine.{Next, next_with}
 use Rattle.call_machines.specs.Programs as machines
 use Rattle.call_machines.specs.Programs.{ProgramState}
 use Rattle.call_machines.specs.Programs.ProgramState.{In}
-use Rattle.call_machines.specs.WaitTables.WaitState.{Over, Waits}
+use Rattle.call_machines.specs.WaitTables.WaitState.{Waits}
 use Rattle.timer_machines.specs.Requests.{TimedReply, TimedRequest}
 use Rattle.timer_machines.specs.TimedMachines.{Deadline, TimedState, timed_goes_on, waits_with}
 use Rattle.timer_machines.specs.TimedMachines.{begins_with}

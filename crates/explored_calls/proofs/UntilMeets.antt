@@ -179,17 +179,17 @@ module _ (program : Program) (is_program : IsProgram program) (covered : IsCover
               → Follow (Heard (ToDevice (OfSpace (CallsIn pid offered.tag offered.value)))
               (FromDevice (BySpace call_reply)))
           by_step step =
-              begun_to program is_program covered given objects its spot until (Heard (ToDevice
-              (OfSpace (CallsIn pid offered.tag offered.value)))
+              begun_to program is_program covered given objects its spot until
+              (Heard (ToDevice (OfSpace (CallsIn pid offered.tag offered.value)))
               (FromDevice (BySpace call_reply))) (meets_in (Calls Begun)) after_call is kind refl
               call_object refl refl (λ pipe. refl)
               (begun_quiet program is_program covered given objects its spot until after_call
               (record { puts = λ pipe. refl; awake = tt })) step
-              (begun_kind program is_program covered given objects its spot until (Begins (meets_in
-              (Calls Begun))) kind after_call call_object
+              (begun_kind program is_program covered given objects its spot until
+              (Begins (meets_in (Calls Begun))) kind after_call call_object
               (step.followed.next.phase pid) (called_so call_reply)
-              (own_phase program is_program covered given objects its spot until (machines.follows
-              (object_calls objects)
+              (own_phase program is_program covered given objects its spot until
+              (machines.follows (object_calls objects)
               (library_program program given) spot after_call (object_does objects after_call))
               call_object (at_one pid (w.notes pid) w.notes) step.followed.next
               step.followed.fits) (step.timer ∙ kind.so.1))
@@ -227,14 +227,14 @@ module _ (program : Program) (is_program : IsProgram program) (covered : IsCover
           }))
               → Follow Went
           by_step step =
-              begun_to program is_program covered given objects its spot until Went (meets_in
-              (WakesPartner found)) (meets_in (Woke found.given)) is kind
+              begun_to program is_program covered given objects its spot until Went
+              (meets_in (WakesPartner found)) (meets_in (Woke found.given)) is kind
               refl w.object.device refl refl (λ pipe. refl)
-              (begun_quiet program is_program covered given objects its spot until (meets_in (Woke
-              found.given)) (space_quiet (Woke found.given)))
+              (begun_quiet program is_program covered given objects its spot until
+              (meets_in (Woke found.given)) (space_quiet (Woke found.given)))
               (record { followed = step; timer = unset ∙ sym kind.so.1 })
-              (begun_kind program is_program covered given objects its spot until (Begins (meets_in
-              (WakesPartner found))) kind
+              (begun_kind program is_program covered given objects its spot until
+              (Begins (meets_in (WakesPartner found))) kind
               (meets_in (Woke found.given)) w.object.device (step.next.phase pid) (inl tt) own
               unset)
             where
@@ -308,8 +308,8 @@ module _ (program : Program) (is_program : IsProgram program) (covered : IsCover
               × (has_notes (w.notes pid) ≡ true) → Follow grain
           by_sleep (inl woken) =
               subst Follow (sym woken)
-              (slept_to program is_program covered given objects its spot until Woken (meets_in
-              (Calls (Waits count))) (meets_in (Calls Asking)) failed
+              (slept_to program is_program covered given objects its spot until Woken
+              (meets_in (Calls (Waits count))) (meets_in (Calls Asking)) failed
               None is kind refl w.object.device refl refl (λ pipe. refl)
               (space_quiet (Calls Asking))
               (timed_meets.wakes program is_program covered given objects v pipes m follows fits
@@ -317,8 +317,8 @@ module _ (program : Program) (is_program : IsProgram program) (covered : IsCover
               (ap inner is) clocked) refl)
           by_sleep (inr noted) =
               subst Follow (sym noted.0)
-              (slept_to program is_program covered given objects its spot until (Noted (w.notes
-              pid)) (meets_in (Calls (Waits count)))
+              (slept_to program is_program covered given objects its spot until
+              (Noted (w.notes pid)) (meets_in (Calls (Waits count)))
               (meets_in (Calls (Leaving (fault.Interrupted (w.notes pid))))) failed
               (Some (fault.Interrupted (w.notes pid))) is kind refl
               w.object.device refl refl (λ pipe. refl)
@@ -344,8 +344,8 @@ module _ (program : Program) (is_program : IsProgram program) (covered : IsCover
               (FromDevice (BySpace (space.answer_to w.object.device.space
               (CollectsMeeting pid)))))
           by_step step =
-              slept_to program is_program covered given objects its spot until (Heard (ToDevice
-              (OfSpace (CollectsMeeting pid)))
+              slept_to program is_program covered given objects its spot until
+              (Heard (ToDevice (OfSpace (CollectsMeeting pid)))
               (FromDevice (BySpace (space.answer_to w.object.device.space
               (CollectsMeeting pid))))) (meets_in (Calls Asking))
               (meets_in (Calls (goes_with (collected
@@ -357,16 +357,16 @@ module _ (program : Program) (is_program : IsProgram program) (covered : IsCover
               (collected_so (space.answer_to w.object.device.space (CollectsMeeting pid)) failed
               (object_after objects w.object.device (OfSpace (CollectsMeeting pid)))
               (step.followed.next.phase pid) kind.so.0
-              (own_phase program is_program covered given objects its spot until (In spot (meets_in
-              (Calls (goes_with (collected
+              (own_phase program is_program covered given objects its spot until
+              (In spot (meets_in (Calls (goes_with (collected
               (space.answer_to w.object.device.space (CollectsMeeting pid)))))))
               (object_after objects w.object.device (OfSpace (CollectsMeeting pid)))
               (at_one pid (w.notes pid) w.notes) step.followed.next step.followed.fits))
       waits_meets (Calls (Leaving (fault.Interrupted set))) failed is kind made phase may fine =
           subst Follow (sym (only_asks (timed program is_program covered given objects) w.object
           (w.notes pid) _ grain (ToDevice (OfSpace (LeavesSpace pid))) refl may fine))
-          (slept_to program is_program covered given objects its spot until _ (meets_in (Calls
-          (Leaving (fault.Interrupted set))))
+          (slept_to program is_program covered given objects its spot until _
+          (meets_in (Calls (Leaving (fault.Interrupted set))))
           (meets_in (Calls (left_with (fault.Interrupted set) (left
           (space.answer_to w.object.device.space (LeavesSpace pid)))))) failed failed is kind
           refl (object_after objects w.object.device (OfSpace (LeavesSpace pid))) refl refl

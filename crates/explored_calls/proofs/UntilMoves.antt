@@ -86,13 +86,13 @@ module _ (program : Program) (is_program : IsProgram program) (covered : IsCover
         fresh)
     until_comes (Begins other) is kind phase may fine fresh = absurd kind.so.0
     until_comes (WaitsFor (AtSema number (Takes seat st)) failed) is kind phase may fine fresh =
-        takes_comes program is_program covered given objects its grain spot until (λ c. WaitsFor c
-        failed) number seat st is kind phase may
-        (λ there is kind made so may. waits_takes program is_program covered given objects its grain
-        spot until number there st failed is kind made so may fine)
+        takes_comes program is_program covered given objects its grain spot until
+        (λ c. WaitsFor c failed) number seat st is kind phase may
+        (λ there is kind made so may. waits_takes program is_program covered given objects its
+        grain spot until number there st failed is kind made so may fine)
     until_comes (WaitsFor (InSpace meeting) failed) is kind phase may fine fresh =
-        meets_comes program is_program covered given objects its grain spot until (λ c. WaitsFor c
-        failed) meeting is kind phase may
+        meets_comes program is_program covered given objects its grain spot until
+        (λ c. WaitsFor c failed) meeting is kind phase may
         (λ is kind made so may. waits_meets program is_program covered given objects its grain spot
         until meeting.offered meeting.at failed is kind made so may
         fine)
