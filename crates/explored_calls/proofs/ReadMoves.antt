@@ -1,22 +1,15 @@
--- The moves of a read at a direction of a pipe, of messages or as a stream, are followed by the
--- explorer. It has a step for each part that the read asks for.
-use Rattle.std.proofs.Common.{◌≡◌, ◌≢◌, inl, inr, ℕ, suc, ◌+◌, ◌-◌, ◌<◌, ◌≤◌, ◌&&◌, Bool}
+-- The moves of a read that waits, at a direction of a pipe of messages or as a stream, are followed
+-- by the explorer. It has a step for each part that the read asks for.
+use Rattle.std.proofs.Common.{◌≡◌, inl, inr, ℕ, suc, ◌+◌, ◌-◌, ◌<◌, Bool}
 use Rattle.std.proofs.Common.{if◌then◌else◌, true, false, Option, Some, None, List, length}
 use Rattle.std.proofs.Common.{nat_lt, refl, sym, ap, ◌∙◌, subst, arith, Ok, Err}
-use Rattle.std.specs.Prelude.{slice_get, slice_set}
+use Rattle.std.specs.Prelude.{slice_get}
 use Rattle.std.proofs.lemmas.Bool.Decides.{nat_tests}
 use Rattle.sync_base.specs.declared.fault.Fault.TheVariants as fault
-use Rattle.sync_base.specs.declared.mode.Mode.{Mode}
-use Rattle.sync_base.specs.declared.mode.Mode.TheVariants.{Message, Stream}
 use Rattle.sync_base.specs.declared.note.NoteSet.{NoteSet}
 use Rattle.sync_base.specs.NoteSet.{no_notes}
-use Rattle.sync_base.specs.Pipe.{by_mode}
-use Rattle.sync_base.specs.Write.{Write}
-use Rattle.block_queue.specs.QueueObject.{Contents, last_number}
 use Rattle.pipe_dev.specs.declared.answers.ReadAnswer.{ReadAnswer}
 use Rattle.pipe_dev.specs.declared.answers.ReadAnswer.TheVariants as read
-use Rattle.pipe_dev.specs.declared.answers.TryAnswer.{TryAnswer}
-use Rattle.pipe_dev.specs.declared.answers.TryAnswer.TheVariants as try
 use Rattle.waiting.specs.declared.call.Reply.{Reply as WaitReply}
 use Rattle.waiting.specs.declared.call.Reply.TheVariants as reply
 use Rattle.sleep_core.specs.Table.{has_notes}
@@ -26,8 +19,7 @@ use Rattle.calls.specs.declared.ending.Ending.{Ending}
 use Rattle.calls.specs.declared.ending.Ending.TheVariants as ending
 use Rattle.calls.specs.Calls.{room_of}
 use Rattle.calls.specs.Lines.{after_ending}
-use Rattle.calls.specs.Pipes.{Direction, finds, opened}
-use Rattle.calls.specs.Pipes.{taken as read_from}
+use Rattle.calls.specs.Pipes.{Direction}
 use Rattle.calls.specs.Position.{end_found}
 use Rattle.calls.specs.Program.{IsProgram, Program, is_stream, is_stream_at}
 use Rattle.call_machines.specs.Machine.{Outcome}
@@ -36,34 +28,27 @@ use Rattle.call_machines.specs.Programs.ProgramState.{In}
 use Rattle.pipe_machines.specs.PipeRuns.{CallState, DirectionState}
 use Rattle.pipe_machines.specs.PipeRuns.{call_goes_on, part_after}
 use Rattle.pipe_machines.specs.PipeRuns.{part_told}
-use Rattle.pipe_machines.specs.PipeRuns.CallState.{Reads, TriesToRead}
+use Rattle.pipe_machines.specs.PipeRuns.CallState.{Reads}
 use Rattle.pipe_dev.specs.declared.filling.ReadOutcome.{ReadOutcome}
 use Rattle.pipe_dev.specs.declared.filling.Stop.TheVariants as stop
-use Rattle.pipe_dev.specs.declared.row.Row.{Row}
 use Rattle.pipe_dev.specs.ReadCalls.{came_to}
 use Rattle.pipe_dev.specs.ReadSteps.{found_of}
-use Rattle.pipe_machines.specs.PipeRuns.CallOut.{HasRead, HasTried}
-use Rattle.pipe_machines.specs.ReadMachine.{FillState, came_so, filled_to, tried_of}
+use Rattle.pipe_machines.specs.PipeRuns.CallOut.{HasRead}
+use Rattle.pipe_machines.specs.ReadMachine.{FillState, came_so}
 use Rattle.pipe_machines.specs.Requests.{PipeReply}
 use Rattle.pipe_machines.specs.Tries.{TryState}
-use Rattle.pipe_machines.proofs.DirectionLemmas.{ReadCase, read_case}
-use Rattle.pipe_machines.proofs.DirectionLemmas.ReadCase.{IsEnd, IsNotYet, OfRest, Takes}
 use Rattle.object_machines.specs.ObjectCalls.{ObjectCall, ObjectStates, Objects}
 use Rattle.object_machines.specs.ObjectCalls.{pipe_at}
 use Rattle.object_machines.specs.ObjectCalls.ObjectCall.{AtPipe}
 use Rattle.object_machines.specs.ObjectCalls.ObjectOut.{FromPipe}
 use Rattle.explored_calls.specs.LibraryCalls.{Given, IsCovered, Spot, ended_as, place_after}
-use Rattle.explored_calls.proofs.Arrivals.{and_right, arrived}
-use Rattle.explored_calls.proofs.Directions.{ReadsSo, finds_so, found_by}
-use Rattle.explored_calls.proofs.Directions.{reads_so as takes_so}
+use Rattle.explored_calls.proofs.Arrivals.{arrived}
 use Rattle.explored_calls.proofs.ExplorerSteps.{no, yes}
 use Rattle.explored_calls.proofs.Fits.{IsAtPipe, IsPhase, View, granted_in}
-use Rattle.explored_calls.proofs.Lists.{at_one}
 use Rattle.explored_calls.proofs.PipeMoves as moves
 use Rattle.explored_calls.proofs.PipeMoves.{PipeCall}
-use Rattle.explored_calls.proofs.PipePhases.{FillPhase, IsAwake, IsQuiet, MayBegin, PipeFits}
-use Rattle.explored_calls.proofs.PipePhases.{PipesFit, ReadPhase, TryPhase, put_by, put_in}
-use Rattle.explored_calls.proofs.PipesMoved as moved
+use Rattle.explored_calls.proofs.PipePhases.{FillPhase, IsAwake, MayBegin, PipeFits}
+use Rattle.explored_calls.proofs.PipePhases.{ReadPhase, put_by}
 use Rattle.explored_calls.proofs.Queued.Amid.{Blocks, ReadsOn}
 use Rattle.explored_calls.proofs.Running.{Follows, Phase}
 use Rattle.explored_calls.proofs.Running.Phase.{Has, Is, Served}
@@ -71,54 +56,9 @@ use Rattle.explored_calls.proofs.RunningPipes as steps
 use Rattle.explored_calls.proofs.RunningPipes.{Reading, turned_to}
 use Rattle.explored_calls.proofs.RunningPipes.Reading.{Begins, Continues, Retries}
 use Rattle.explored_calls.proofs.RunningSteps.{GoesTo, goes_is}
-
--- in stream mode alone it goes on, if there is room
-on_in : (mode : Mode) (more : Bool) → by_mode mode false more ≡ (is_stream mode && more)
-on_in Message more = refl
-on_in Stream more = refl
-
--- there is room where more was to be read
-room_test : (size count : ℕ) → nat_lt 0 (size - count) ≡ nat_lt count size
-room_test size count = by_test (nat_lt count size) refl
-  where
-    by_test : (test : Bool) → nat_lt count size ≡ test → nat_lt 0 (size - count) ≡ test
-    by_test true less =
-        let low : count < size = grind (arith, nat_tests) in
-        let some : 0 < size - count = omega (arith, low) in
-        grind (arith, nat_tests)
-    by_test false most =
-        let low : size ≤ count = grind (arith, nat_tests) in
-        let none : size - count ≡ 0 = omega (arith, low) in
-        grind (arith, nat_tests)
-
--- one that has read some has less room than at first
-some_less : (size count : ℕ) → count < size → nat_lt 0 count ≡ true
-    → nat_lt (size - count) size ≡ true
-some_less size count low some =
-    let more : 0 < count = grind (arith, nat_tests) in
-    let less : size - count < size = omega (arith, low, more) in
-    grind (arith, nat_tests)
-
--- and one that has read none as much
-none_less : (size count : ℕ) → nat_lt 0 count ≡ false → nat_lt (size - count) size ≡ false
-none_less size count none =
-    let zero_is : count ≡ 0 = grind (arith, nat_tests) in
-    let same : size - count ≡ size = omega (arith, zero_is) in
-    ap (λ (n : ℕ). nat_lt n size) same
-    ∙ (let no_less : nat_lt size size ≡ false = grind (arith, nat_tests) in no_less)
-
--- where a try is that came to this, and took out this write as its last
-abbrev over_at : {Out : Type 0} → Option ℕ → Out → FillState Out
-over_at None out = FillState.Told (Ok out)
-over_at (Some number) out = FillState.WakingWriters 0 number out
-
--- so its machine has it
-came_is : {Out : Type 0} (row : Row) (room : ℕ) (told : ReadOutcome → Out) (last : Option ℕ)
-    (came : ReadOutcome) (out : Out) → told came ≡ out
-    → came_so row room told last came ≡ over_at last out
-came_is {Out} row room told None came out is = ap (λ (o : Out). over_at None o) is
-came_is {Out} row room told (Some number) came out is =
-    ap (λ (o : Out). over_at (Some number) o) is
+use Rattle.explored_calls.proofs.ReadParts.{PartRead, by_reply, came_is, finds_there, none_less}
+use Rattle.explored_calls.proofs.ReadParts.{over_at}
+use Rattle.explored_calls.proofs.ReadParts.{part_got, part_stays, some_less, stays_read}
 
 module _ (program : Program) (is_program : IsProgram program) (covered : IsCovered program)
     (given : Spot → Given) (objects : Objects) (its : PipeCall program objects) where
@@ -128,7 +68,6 @@ module _ (program : Program) (is_program : IsProgram program) (covered : IsCover
     m,
     follows,
     fits,
-    piped,
     pid,
     low,
     spot,
@@ -177,98 +116,6 @@ module _ (program : Program) (is_program : IsProgram program) (covered : IsCover
   Lands at ends = moves.Lands program is_program covered given objects its at ends
 
   module _ (modes : is_stream (pipe_at objects pipe).row.mode ≡ is_stream_at program pipe) where
-    -- whether it goes on after a part
-    goes_on_is : (test : Bool)
-        → by_mode (pipe_at objects pipe).row.mode false test ≡ (is_stream_at program pipe && test)
-    goes_on_is test =
-        on_in (pipe_at objects pipe).row.mode test ∙ ap (λ (b : Bool). b && test) modes
-
-    -- so it is where the explorer has room left
-    room_is : (size count : ℕ)
-        → (is_stream_at program pipe && nat_lt 0 (size - count))
-        ≡ (is_stream_at program pipe && nat_lt count size)
-    room_is size count =
-        ap (λ (b : Bool). is_stream_at program pipe && b) (room_test size count)
-
-    -- the direction after a read of so many bytes that takes some
-    module _ (room count : ℕ) (number : Option ℕ)
-        (told : part_told d room d.rest ≡ PipeReply.Got count number) where
-      abbrev after : DirectionState
-      after = part_after d room d.rest
-
-      reads : ReadsSo fit.by d fit.is_shown room count after
-      reads = takes_so fit.by d fit.is_shown room count number told
-
-      -- no number is taken back, and the limit stays
-      leaves_so : (after.kept.limit ≡ d.kept.limit)
-          × (length after.kept.waiting ≤ length d.kept.waiting)
-          × (last_number d.kept ≤ last_number after.kept)
-      leaves_so = by_case (read_case d room)
-        where
-          by_case : ReadCase d room (part_told d room d.rest) (part_after d room d.rest)
-              → (after.kept.limit ≡ d.kept.limit)
-              × (length after.kept.waiting ≤ length d.kept.waiting)
-              × (last_number d.kept ≤ last_number after.kept)
-          by_case (OfRest left some more told_is kept_is) =
-              let last = ap last_number kept_is in
-              let waits = ap (λ (k : Contents). length k.waiting) kept_is in (
-                ap (λ (k : Contents). k.limit) kept_is,
-                omega (arith, waits),
-                omega (arith, last),
-              )
-          by_case (Takes write writes waiting told_is kept_is rest_is) =
-              let last = ap last_number kept_is in
-              let waits = ap (λ (k : Contents). length k.waiting) kept_is in
-              let many : length d.kept.waiting ≡ suc (length writes) =
-              ap (λ (ws : List Write). length ws) waiting in (
-                ap (λ (k : Contents). k.limit) kept_is,
-                omega (arith, waits, many),
-                omega (arith, last, many),
-              )
-          by_case (IsNotYet none told_is after_is) =
-              absurd (let both : PipeReply.Got count number
-              ≡ PipeReply.NotYet d.kept.taken_out = sym told ∙ told_is in cc)
-          by_case (IsEnd told_is after_is) =
-              absurd (let both : PipeReply.Got count number ≡ PipeReply.End =
-              sym told ∙ told_is in cc)
-
-      -- the directions then
-      read_dirs : (state : ProgramState Spot ObjectCall) → IsAwake objects state
-          → ((other : ℕ) → other ≢ pipe → put_in state other ≡ None)
-          → put_in state pipe ≡ None → put_by old ≡ None
-          → PipesFit objects program (slice_set v.object.pipes pipe after)
-          (at_one pid state v.state) (slice_set pipes pipe (read_from room x))
-      read_dirs state awake others none_now none =
-          moved.same_puts objects program v.object.pipes v.state pipes pid low piped pipe there
-          state awake (moves.else_before program is_program covered given objects its) others after
-          (read_from room x) reads.leaves reads.is_shown
-          leaves_so.0 leaves_so.1 leaves_so.2 (moves.put_before program is_program covered given
-          objects its ∙ none) none_now
-
-    -- what is found there
-    finds_there : (room : ℕ) (told : PipeReply) → part_told d room d.rest ≡ told
-        → finds x ≡ found_by told
-    finds_there room told is = finds_so fit.by d fit.is_shown room ∙ ap found_by is
-
-    -- so much room is left after a part, as the explorer has it
-    left_is : (size count more : ℕ) (number : Option ℕ)
-        → part_told d (size - count) d.rest ≡ PipeReply.Got more number
-        → size - count - (opened x).rest ≡ size - (count + more)
-    left_is size count more number told =
-        let same = (reads (size - count) more number told).room_left in omega (arith, same)
-
-    -- where the direction stays
-    stays_read : (e : DirectionState) (state : ProgramState Spot ObjectCall) → e ≡ d
-        → Followed (moved_to v.object state (v.notes pid))
-        → Followed (moved_to (with_pipe e) state (v.notes pid))
-    stays_read e state same followed =
-        subst (λ (it : DirectionState). Followed (moved_to (with_pipe it) state (v.notes pid)))
-        (sym same)
-        (subst (λ (object : ObjectStates). Followed (moved_to object state (v.notes pid)))
-        (sym (moves.same_pipe program is_program covered given objects its)) followed)
-
-    -- ---- a read that waits
-
     module _ (buffer : List ℕ) (made : line.call ≡ call.Read pipe (length buffer) None) where
       abbrev reads_at : FillState (WaitReply ReadAnswer) → CallState
       reads_at at = Reads buffer (TryState.Tries at)
@@ -506,27 +353,19 @@ module _ (program : Program) (is_program : IsProgram program) (covered : IsCover
             let apart : Has spot.place (ReadsOn room) ≡ Has spot.place Blocks =
             sym goes ∙ blocks in cc
 
-        -- where the try came to an answer, the read is over
-        comes_over : (e : DirectionState) (dirs : List Direction) (came : ReadOutcome)
-            (out : ReadAnswer) → found_of came ≡ reply.Done out
-            → ((phase : Phase) → GoesTo program phase (after_ending line (read_ends out))
-            → Follows program dirs (turned_to m pid phase (m.notes pid)))
-            → ((state : ProgramState Spot ObjectCall) → IsQuiet objects state
-            → PipesFit objects program (with_pipe e).pipes (at_one pid state v.state) dirs)
-            → (now : Option ℕ)
-            → Followed (moved_to (with_pipe e)
-            (landed (reads_at (came_so (pipe_at objects pipe).row (length buffer) found_of now
-            came))) (v.notes pid))
-        comes_over e dirs came out is followed dirs_fit now =
-            subst (λ (at : FillState (WaitReply ReadAnswer)).
-            Followed (moved_to (with_pipe e) (landed (reads_at at)) (v.notes pid)))
-            (sym (came_is (pipe_at objects pipe).row (length buffer) found_of now came
-            (reply.Done out) is))
-            (moves.lands_by program is_program covered given objects its (reads_at (over_at now
-            (reply.Done out))) (read_ends out) dirs
-            (with_pipe e) refl refl followed dirs_fit (over_lands now out))
+        -- as one that reads by parts
+        part : PartRead program is_program covered given objects its (length buffer) reads_at
+        part =
+            record {
+              made = inl made;
+              puts = λ count last. refl;
+              asks = λ count last. refl;
+              awake = λ count last over. over;
+              goes = λ object count last less. read_phase object (FillState.Filling count last)
+                  (Has spot.place (ReadsOn (length buffer - count))) (inr (less, refl));
+            }
 
-        -- the same where the direction stays
+        -- where the direction stays, and the try came to an answer, the read is over
         stays_over : (e : DirectionState) (came : ReadOutcome) (out : ReadAnswer)
             → e ≡ d → found_of came ≡ reply.Done out
             → ((phase : Phase) → GoesTo program phase (after_ending line (read_ends out))
@@ -535,71 +374,18 @@ module _ (program : Program) (is_program : IsProgram program) (covered : IsCover
             (landed (reads_at (came_so (pipe_at objects pipe).row (length buffer) found_of last
             came))) (v.notes pid))
         stays_over e came out same is followed =
-            comes_over e pipes came out is followed
-            (λ state quiet. subst (λ (object : ObjectStates).
-            PipesFit objects program object.pipes (at_one pid state v.state) pipes)
-            (sym (moves.same_pipe program is_program covered given objects its) ∙ ap with_pipe (sym
-            same)) (moves.dirs_stay program is_program covered given objects its state unput quiet))
-            last
+            part_stays program is_program covered given objects its (length buffer) reads_at part
+            found_of count unput reading e came (reply.Done out) (read_ends out) last same is
+            followed (over_lands last out)
 
         -- it takes a part
-        was_got : (part : ℕ) (number : Option ℕ)
-            → part_told d room d.rest ≡ PipeReply.Got part number
-            → Read_so count last room (PipeReply.Got part number)
-        was_got part number told =
-            subst So (sym (goes_on_is (nat_lt (count + part) (length buffer))))
-            (by_test (is_stream_at program pipe && nat_lt (count + part) (length buffer)) refl)
-          where
-            So : Bool → Type 0
-            So test =
-                Followed (moved_to (with_pipe (part_after d room d.rest))
-                (landed (reads_at (filled_to (pipe_at objects pipe).row (length buffer) found_of
-                test (count + part) number))) (v.notes pid))
-
-            by_test : (test : Bool)
-                → (is_stream_at program pipe && nat_lt (count + part) (length buffer)) ≡ test
-                → So test
-            by_test true on =
-                moves.turns_to program is_program covered given objects its (Has spot.place (ReadsOn
-                (length buffer - (count + part))))
-                (m.notes pid) (v.notes pid) (slice_set pipes pipe (read_from room x))
-                (with_pipe (part_after d room d.rest))
-                (In spot (AtPipe pipe (reads_at (FillState.Filling (count + part) number)))) refl
-                refl
-                (steps.reads_part program pipes m follows pid low spot.place line line_is pipe x
-                fit.there at_call (length buffer) room (inl made) reading
-                (length buffer - (count + part))
-                (left_is (length buffer) count part number told) (finds_there room (PipeReply.Got
-                part number) told)
-                (room_is (length buffer) (count + part) ∙ on))
-                (fits.notes pid low)
-                (read_phase (with_pipe (part_after d room d.rest)) (FillState.Filling (count + part)
-                number)
-                (Has spot.place (ReadsOn (length buffer - (count + part)))) (inr (less, refl)))
-                (read_dirs room part number told
-                (In spot (AtPipe pipe (reads_at (FillState.Filling (count + part) number))))
-                (λ over. over)
-                (moves.else_after program is_program covered given objects its (reads_at
-                (FillState.Filling (count + part) number)))
-                (moves.put_here program is_program covered given objects its (reads_at
-                (FillState.Filling (count + part) number))) unput)
-              where
-                less : count + part < length buffer
-                less =
-                    let low = and_right (is_stream_at program pipe)
-                    (nat_lt (count + part) (length buffer)) on in
-                    grind (arith, nat_tests)
-            by_test false over =
-                comes_over (part_after d room d.rest) (slice_set pipes pipe (read_from room x))
-                (came_to (count + part) stop.Enough) (read.Got (count + part)) refl
-                (steps.reads_last program pipes m follows pid low spot.place line line_is pipe x
-                fit.there at_call (length buffer) room (inl made) reading
-                (length buffer - (count + part))
-                (left_is (length buffer) count part number told) (finds_there room (PipeReply.Got
-                part number) told)
-                (room_is (length buffer) (count + part) ∙ over))
-                (λ state quiet. read_dirs room part number told state quiet.awake
-                (λ other far. quiet.puts other) (quiet.puts pipe) unput) number
+        was_got : (part_read : ℕ) (number : Option ℕ)
+            → part_told d room d.rest ≡ PipeReply.Got part_read number
+            → Read_so count last room (PipeReply.Got part_read number)
+        was_got part_read number told =
+            part_got program is_program covered given objects its (length buffer) reads_at part
+            found_of count unput reading modes part_read number told
+            (over_lands number (read.Got (count + part_read)))
 
         -- or nothing is there yet
         was_not : (n : ℕ) → part_told d room d.rest ≡ PipeReply.NotYet n
@@ -621,7 +407,8 @@ module _ (program : Program) (is_program : IsProgram program) (covered : IsCover
                 refl (waits_awake last n)
                 (steps.reads_nothing program pipes m follows pid low spot.place line line_is pipe
                 x fit.there at_call (length buffer) room (inl made) reading fresh
-                (finds_there room (PipeReply.NotYet n) told) (none_less (length buffer) count none)
+                (finds_there program is_program covered given objects its room (PipeReply.NotYet n)
+                told) (none_less (length buffer) count none)
                 made)
                 (read_phase v.object (over_at last (reply.Wait n)) _
                 (waits_phase last n _ refl))
@@ -656,7 +443,8 @@ module _ (program : Program) (is_program : IsProgram program) (covered : IsCover
                 (ap (λ (b : Bool). if b then reply.Done (read.Got count) else reply.Wait n) some)
                 (steps.reads_some program pipes m follows pid low spot.place line line_is pipe x
                 fit.there at_call (length buffer) room (inl made) reading
-                (goes_fresh (amid some).1) (finds_there room (PipeReply.NotYet n) told)
+                (goes_fresh (amid some).1) (finds_there program is_program covered given objects its
+                room (PipeReply.NotYet n) told)
                 (some_less (length buffer) count (amid some).0 some))
             by_some false none =
                 subst So
@@ -664,7 +452,8 @@ module _ (program : Program) (is_program : IsProgram program) (covered : IsCover
                 (came_to count (stop.NotYet n)) (reply.Wait n)
                 (ap (λ (b : Bool). if b then reply.Done (read.Got count) else reply.Wait n)
                 none)))
-                (stays_read (part_after d room d.rest) _ same
+                (stays_read program is_program covered given objects its (part_after d room d.rest)
+                _ same
                 (subst (λ (state : ProgramState Spot ObjectCall).
                 Followed (moved_to v.object state (v.notes pid))) (sym (waits_lead last n))
                 (by_phase none phase_is)))
@@ -680,7 +469,7 @@ module _ (program : Program) (is_program : IsProgram program) (covered : IsCover
                 stays_over (part_after d room d.rest) (came_to count stop.End) out same is
                 (steps.reads_end program pipes m follows pid low spot.place line line_is pipe x
                 fit.there at_call (length buffer) room (inl made) reading (read_ends out) how
-                (finds_there room PipeReply.End told))
+                (finds_there program is_program covered given objects its room PipeReply.End told))
 
             by_some : (test : Bool) → nat_lt 0 count ≡ test
                 → Read_so count last room PipeReply.End
@@ -699,302 +488,6 @@ module _ (program : Program) (is_program : IsProgram program) (covered : IsCover
 
         -- so each request for a part is followed
         pub reads_so : Read_so count last room (part_told d room d.rest)
-        reads_so = by_case (read_case d room)
-          where
-            by_case : ReadCase d room (part_told d room d.rest) (part_after d room d.rest)
-                → Read_so count last room (part_told d room d.rest)
-            by_case (OfRest left some more told kept) =
-                subst (Read_so count last room) (sym told) (was_got more None told)
-            by_case (Takes write writes waiting told kept rest) =
-                subst (Read_so count last room) (sym told) (was_got _ _ told)
-            by_case (IsNotYet none told same) =
-                subst (Read_so count last room) (sym told) (was_not _ told same)
-            by_case (IsEnd told same) =
-                subst (Read_so count last room) (sym told) (was_end told same)
-
-    -- ---- a read that does not wait
-
-    module _ (buffer : List ℕ) (made : line.call ≡ call.TryRead pipe (length buffer)) where
-      abbrev tries_at : FillState TryAnswer → CallState
-      tries_at at = TriesToRead buffer at
-
-      try_line : IsAtPipe program spot.place pipe (call.TryRead pipe (length buffer)) line
-      try_line = record { line_is = line_is; call_is = made; low = there }
-
-      -- its phase, amid such a read
-      try_phase : (object : ObjectStates) (at : FillState TryAnswer) (phase : Phase)
-          → TryPhase spot.place line (length buffer) at phase
-          → IsPhase program (granted_in program objects object pid) pid
-          (In spot (AtPipe pipe (tries_at at))) phase
-      try_phase object at phase is =
-          (by, record { line = line; is_at = try_line; phase_is = is })
-
-      -- how it ends
-      abbrev try_ends : TryAnswer → Ending
-      try_ends out = ended_as (Ok (FromPipe (HasTried out)))
-
-      try_leads : (woken number : ℕ) (out : TryAnswer) (test : Bool) → more woken ≡ test
-          → landed (tries_at (FillState.WakingWriters woken number out))
-          ≡ (if test then In spot (AtPipe pipe (tries_at
-          (FillState.WakingWriters woken number out)))
-          else arrived program is_program covered given objects spot.by
-          (place_after (try_ends out) (slice_get program.lines spot.place) spot.place))
-      try_leads woken number out true is = rw is refl
-      try_leads woken number out false is = rw is refl
-
-      try_awake : (woken number : ℕ) (out : TryAnswer) → more woken ≡ true
-          → IsAwake objects (In spot (AtPipe pipe (tries_at
-          (FillState.WakingWriters woken number out))))
-      try_awake woken number out is = rw is (λ over. over)
-
-      -- and so it lands
-      try_lands : (woken number : ℕ) (out : TryAnswer)
-          → Lands (tries_at (FillState.WakingWriters woken number out)) (try_ends out)
-      try_lands woken number out =
-          record {
-            test = more woken;
-            landed_is = try_leads woken number out (more woken) refl;
-            awake = try_awake woken number out;
-            none = refl;
-            served = λ more object. try_phase object (FillState.WakingWriters woken number out)
-                (Served (after_ending line (try_ends out)) no_notes) refl;
-          }
-
-      -- one that is over goes on, or wakes the writers first
-      tried_lands : (last : Option ℕ) (out : TryAnswer)
-          → Lands (tries_at (over_at last out)) (try_ends out)
-      tried_lands None out =
-          record {
-            test = false;
-            landed_is = refl;
-            awake = λ no_more. absurd cc;
-            none = refl;
-            served = λ no_more object. absurd cc;
-          }
-      tried_lands (Some number) out = try_lands 0 number out
-
-      -- the position after a part was asked for, by the reply
-      abbrev Tried_so : ℕ → Option ℕ → ℕ → PipeReply → Type 0
-      Tried_so count last room told =
-          Followed (moved_to (with_pipe (part_after d room d.rest))
-          (landed (call_goes_on (pipe_at objects pipe).limit (pipe_at objects pipe).row
-          (tries_at (FillState.Filling count last)) (Outcome.Replied told))) (v.notes pid))
-
-      -- it has woken one more writer
-      pub try_wakes : (woken number : ℕ) (out : TryAnswer)
-          → old ≡ tries_at (FillState.WakingWriters woken number out)
-          → m.phase pid ≡ Served (after_ending line (try_ends out)) no_notes
-          → Followed (moved_to v.object
-          (landed (call_goes_on (pipe_at objects pipe).limit (pipe_at objects pipe).row
-          (tries_at (FillState.WakingWriters woken number out)) Outcome.Went)) (v.notes pid))
-      try_wakes woken number out was served =
-          moves.lands_on program is_program covered given objects its (tries_at
-          (FillState.WakingWriters (suc woken) number out)) (try_ends out)
-          (ap put_by was) served (try_lands (suc woken) number out)
-
-      -- it asks for a part
-      module _ (count : ℕ) (last : Option ℕ)
-          (fills : old ≡ tries_at (FillState.Filling count last))
-          (phase_is : FillPhase (m.phase pid ≡ Is spot.place) spot.place (length buffer) count
-          (m.phase pid)) where
-        try_unput : put_by old ≡ None
-        try_unput = ap put_by fills
-
-        -- the room that is left
-        abbrev try_room : ℕ
-        try_room = length buffer - count
-
-        -- as the explorer has it
-        trying : Reading pipe spot.place (length buffer) try_room line.call (m.phase pid)
-        trying = by_phase phase_is
-          where
-            by_phase : FillPhase (m.phase pid ≡ Is spot.place) spot.place (length buffer) count
-                (m.phase pid)
-                → Reading pipe spot.place (length buffer) try_room line.call (m.phase pid)
-            by_phase (inl first) = let none = first.0 in Begins first.1 (omega (arith, none))
-            by_phase (inr goes) = Continues goes.1
-
-        -- it never waits
-        try_fresh : m.phase pid ≡ Has spot.place Blocks → ⊥
-        try_fresh blocks = by_phase phase_is
-          where
-            by_phase : FillPhase (m.phase pid ≡ Is spot.place) spot.place (length buffer) count
-                (m.phase pid) → ⊥
-            by_phase (inl first) =
-                let apart : Is spot.place ≡ Has spot.place Blocks = sym first.1 ∙ blocks in cc
-            by_phase (inr goes) =
-                let apart : Has spot.place (ReadsOn try_room) ≡ Has spot.place Blocks =
-                sym goes.1 ∙ blocks in cc
-
-        -- one that has read some has room
-        try_less : nat_lt 0 count ≡ true → count < length buffer
-        try_less some = by_phase phase_is
-          where
-            by_phase : FillPhase (m.phase pid ≡ Is spot.place) spot.place (length buffer) count
-                (m.phase pid) → count < length buffer
-            by_phase (inl first) = absurd (let none = first.0 in
-                let low : 0 < count = grind (arith, nat_tests) in omega (arith, none, low))
-            by_phase (inr goes) = goes.0
-
-        -- where the try came to an answer, it is over
-        tried_over : (e : DirectionState) (dirs : List Direction) (came : ReadOutcome)
-            (out : TryAnswer) → tried_of came ≡ out
-            → ((phase : Phase) → GoesTo program phase (after_ending line (try_ends out))
-            → Follows program dirs (turned_to m pid phase (m.notes pid)))
-            → ((state : ProgramState Spot ObjectCall) → IsQuiet objects state
-            → PipesFit objects program (with_pipe e).pipes (at_one pid state v.state) dirs)
-            → (now : Option ℕ)
-            → Followed (moved_to (with_pipe e)
-            (landed (tries_at (came_so (pipe_at objects pipe).row (length buffer) tried_of now
-            came))) (v.notes pid))
-        tried_over e dirs came out is followed dirs_fit now =
-            subst (λ (at : FillState TryAnswer).
-            Followed (moved_to (with_pipe e) (landed (tries_at at)) (v.notes pid)))
-            (sym (came_is (pipe_at objects pipe).row (length buffer) tried_of now came out is))
-            (moves.lands_by program is_program covered given objects its (tries_at (over_at now
-            out)) (try_ends out) dirs (with_pipe e) refl
-            refl followed dirs_fit (tried_lands now out))
-
-        -- the same where the direction stays
-        tried_there : (e : DirectionState) (came : ReadOutcome) (out : TryAnswer)
-            → e ≡ d → tried_of came ≡ out
-            → ((phase : Phase) → GoesTo program phase (after_ending line (try_ends out))
-            → Follows program pipes (turned_to m pid phase (m.notes pid)))
-            → Followed (moved_to (with_pipe e)
-            (landed (tries_at (came_so (pipe_at objects pipe).row (length buffer) tried_of last
-            came))) (v.notes pid))
-        tried_there e came out same is followed =
-            tried_over e pipes came out is followed
-            (λ state quiet. subst (λ (object : ObjectStates).
-            PipesFit objects program object.pipes (at_one pid state v.state) pipes)
-            (sym (moves.same_pipe program is_program covered given objects its) ∙ ap with_pipe (sym
-            same)) (moves.dirs_stay program is_program covered given objects its state try_unput
-            quiet)) last
-
-        -- it takes a part
-        try_got : (part : ℕ) (number : Option ℕ)
-            → part_told d try_room d.rest ≡ PipeReply.Got part number
-            → Tried_so count last try_room (PipeReply.Got part number)
-        try_got part number told =
-            subst So (sym (goes_on_is (nat_lt (count + part) (length buffer))))
-            (by_test (is_stream_at program pipe && nat_lt (count + part) (length buffer)) refl)
-          where
-            So : Bool → Type 0
-            So test =
-                Followed (moved_to (with_pipe (part_after d try_room d.rest))
-                (landed (tries_at (filled_to (pipe_at objects pipe).row (length buffer) tried_of
-                test (count + part) number))) (v.notes pid))
-
-            by_test : (test : Bool)
-                → (is_stream_at program pipe && nat_lt (count + part) (length buffer)) ≡ test
-                → So test
-            by_test true on =
-                moves.turns_to program is_program covered given objects its (Has spot.place (ReadsOn
-                (length buffer - (count + part))))
-                (m.notes pid) (v.notes pid) (slice_set pipes pipe (read_from try_room x))
-                (with_pipe (part_after d try_room d.rest))
-                (In spot (AtPipe pipe (tries_at (FillState.Filling (count + part) number)))) refl
-                refl
-                (steps.reads_part program pipes m follows pid low spot.place line line_is pipe x
-                fit.there at_call (length buffer) try_room (inr made) trying
-                (length buffer - (count + part))
-                (left_is (length buffer) count part number told) (finds_there try_room
-                (PipeReply.Got part number) told)
-                (room_is (length buffer) (count + part) ∙ on))
-                (fits.notes pid low)
-                (try_phase (with_pipe (part_after d try_room d.rest)) (FillState.Filling (count +
-                part) number)
-                (Has spot.place (ReadsOn (length buffer - (count + part)))) (inr (less, refl)))
-                (read_dirs try_room part number told
-                (In spot (AtPipe pipe (tries_at (FillState.Filling (count + part) number))))
-                (λ over. over)
-                (moves.else_after program is_program covered given objects its (tries_at
-                (FillState.Filling (count + part) number)))
-                (moves.put_here program is_program covered given objects its (tries_at
-                (FillState.Filling (count + part) number))) try_unput)
-              where
-                less : count + part < length buffer
-                less =
-                    let low = and_right (is_stream_at program pipe)
-                    (nat_lt (count + part) (length buffer)) on in
-                    grind (arith, nat_tests)
-            by_test false over =
-                tried_over (part_after d try_room d.rest)
-                (slice_set pipes pipe (read_from try_room x))
-                (came_to (count + part) stop.Enough) (try.Got (count + part)) refl
-                (steps.reads_last program pipes m follows pid low spot.place line line_is pipe x
-                fit.there at_call (length buffer) try_room (inr made) trying
-                (length buffer - (count + part))
-                (left_is (length buffer) count part number told) (finds_there try_room
-                (PipeReply.Got part number) told)
-                (room_is (length buffer) (count + part) ∙ over))
-                (λ state quiet. read_dirs try_room part number told state quiet.awake
-                (λ other far. quiet.puts other) (quiet.puts pipe) try_unput) number
-
-        -- or nothing is there yet
-        try_not : (n : ℕ) → part_told d try_room d.rest ≡ PipeReply.NotYet n
-            → part_after d try_room d.rest ≡ d
-            → Tried_so count last try_room (PipeReply.NotYet n)
-        try_not n told same = by_some (nat_lt 0 count) refl
-          where
-            by_some : (test : Bool) → nat_lt 0 count ≡ test
-                → Tried_so count last try_room (PipeReply.NotYet n)
-            by_some true some =
-                tried_there (part_after d try_room d.rest) (came_to count (stop.NotYet n))
-                (try.Got count) same
-                (ap (λ (b : Bool). if b then try.Got count else try.NotYet) some)
-                (steps.reads_some program pipes m follows pid low spot.place line line_is pipe x
-                fit.there at_call (length buffer) try_room (inr made) trying try_fresh
-                (finds_there try_room (PipeReply.NotYet n) told)
-                (some_less (length buffer) count (try_less some) some))
-            by_some false none =
-                tried_there (part_after d try_room d.rest) (came_to count (stop.NotYet n))
-                try.NotYet same
-                (ap (λ (b : Bool). if b then try.Got count else try.NotYet) none)
-                (steps.reads_other program pipes m follows pid low spot.place line line_is pipe x
-                fit.there at_call (length buffer) try_room (inr made) trying try_fresh
-                (finds_there try_room (PipeReply.NotYet n) told) (none_less (length buffer) count
-                none) made)
-
-        -- or all is read
-        try_end : part_told d try_room d.rest ≡ PipeReply.End
-            → part_after d try_room d.rest ≡ d → Tried_so count last try_room PipeReply.End
-        try_end told same = by_some (nat_lt 0 count) refl
-          where
-            step : (out : TryAnswer) → tried_of (came_to count stop.End) ≡ out
-                → end_found line try_room ≡ try_ends out
-                → Tried_so count last try_room PipeReply.End
-            step out is how =
-                tried_there (part_after d try_room d.rest) (came_to count stop.End) out same is
-                (steps.reads_end program pipes m follows pid low spot.place line line_is pipe x
-                fit.there at_call (length buffer) try_room (inr made) trying (try_ends out) how
-                (finds_there try_room PipeReply.End told))
-
-            by_some : (test : Bool) → nat_lt 0 count ≡ test
-                → Tried_so count last try_room PipeReply.End
-            by_some true some =
-                step (try.Got count)
-                (ap (λ (b : Bool). if b then try.Got count else try.End) some)
-                (yes _ _ _ (ap (λ (made : Call). nat_lt try_room (room_of made)) made
-                ∙ some_less (length buffer) count (try_less some) some))
-            by_some false none =
-                step try.End
-                (ap (λ (b : Bool). if b then try.Got count else try.End) none)
-                (no _ _ _ (ap (λ (made : Call). nat_lt try_room (room_of made)) made
-                ∙ none_less (length buffer) count none))
-
-        -- so each request for a part is followed
-        pub tries_so : Tried_so count last try_room (part_told d try_room d.rest)
-        tries_so = by_case (read_case d try_room)
-          where
-            by_case : ReadCase d try_room (part_told d try_room d.rest)
-                (part_after d try_room d.rest)
-                → Tried_so count last try_room (part_told d try_room d.rest)
-            by_case (OfRest left some more told kept) =
-                subst (Tried_so count last try_room) (sym told) (try_got more None told)
-            by_case (Takes write writes waiting told kept rest) =
-                subst (Tried_so count last try_room) (sym told) (try_got _ _ told)
-            by_case (IsNotYet none told same) =
-                subst (Tried_so count last try_room) (sym told) (try_not _ told same)
-            by_case (IsEnd told same) =
-                subst (Tried_so count last try_room) (sym told) (try_end told same)
+        reads_so =
+            by_reply program is_program covered given objects its room (Read_so count last room)
+            was_got was_not was_end

@@ -36,14 +36,8 @@ use Rattle.explored_calls.proofs.PipePhases.{IsQuiet, PipesFit, pipes_stay, put_
 use Rattle.explored_calls.proofs.Running.{Follows, Phase, Running, timer_in}
 use Rattle.explored_calls.proofs.TimedKinds.{IsKind, MayBecome, inner, kind_along, timer_served}
 use Rattle.explored_calls.proofs.TimerFits.{seat_timer}
-
--- by whether a number is this one
-by_number : {P : Type 0} (one other : ℕ) → (other ≡ one → P) → (other ≢ one → P) → P
-by_number {P} one other same apart = by_test (other == one) refl
-  where
-    by_test : (test : Bool) → (other == one) ≡ test → P
-    by_test true is = same (grind (arith, nat_tests))
-    by_test false is = apart (grind (arith, nat_tests))
+use Rattle.explored_calls.specs.LibraryCalls.{AreItsObjects}
+use Rattle.explored_calls.proofs.Lists.{by_number}
 
 module _ (program : Program) (objects : Objects) where
   -- a position that fits, where a process has moved and no object has changed
@@ -184,6 +178,29 @@ module _ (program : Program) (is_program : IsProgram program) (covered : IsCover
     -- and so does each other
     pub kinds_else : (other : ℕ) → other < procs_of program → other ≢ pid
         → IsKind program other (w.state other) (next.phase other)
+
+  -- a process of the program, in a position that the explorer follows
+  pub record Mover : Type 0 where
+    -- the objects are those of the program
+    pub objects_are : AreItsObjects program objects
+    -- the position of the run
+    pub w : TimedView
+    -- the directions as the explorer has them
+    pub pipes : List Direction
+    -- the position as lines have it
+    pub m : Running
+    -- the explorer comes to that position
+    pub follows : Follows program pipes m
+    -- it is that of the run
+    pub fits : Fits program objects (inner_view w) m
+    -- and so are its directions
+    pub piped : PipesFit objects program w.object.device.pipes (λ n. inner (w.state n)) pipes
+    -- each timer is that of a process, which goes as its call does
+    pub are : AreKinds w m
+    -- the process that moves there
+    pub pid : ℕ
+    -- it is one of the program
+    pub low : pid < procs_of program
 
   module _ (w : TimedView) (pipes : List Direction) (m : Running) (follows : Follows program pipes
       m)

@@ -42,7 +42,7 @@ use Rattle.timed_machines.specs.TimedCalls.TimedOut.{FromCall}
 use Rattle.timed_machines.specs.TimedEnds.{BeginsTimed, IsTick, MayHaveDeadline, timed_goes}
 use Rattle.timed_machines.proofs.PositionLemmas.NoteComes.{IsOwed, IsPending}
 use Rattle.timed_machines.proofs.InnerMoves.{as_next, over_as, sleeps_as}
-use Rattle.timed_machines.proofs.MoveLemmas as moves
+use Rattle.timed_machines.proofs.MoveLemmas.{fine_more}
 use Rattle.timed_machines.proofs.NoteFacts.{awaits_on, holds_some, joined_none}
 use Rattle.timed_machines.proofs.PositionLemmas as positions
 
@@ -641,9 +641,14 @@ module _ {At Request Reply Out Object : Type 0} (system : System At Request Repl
       record {
         rest = rest_so;
         first = at_start;
-        moves = λ p move fine low may. moves.fine_more system Goes BeginsBy Own Starts Holds
-            invariant
-            keeps p fine move.by (few move.by low) move.grain may;
+        moves = λ p move fine low may. fine_more system Goes BeginsBy Own Starts Holds (record {
+          invariant = invariant;
+          keeps = keeps;
+          p = p;
+          fine = fine;
+          m = move.by;
+          low = few move.by low;
+        }) move.grain may;
         begins = λ p pid next fine low ended begins. begins_so p fine pid (few pid low) ended next
             begins;
         row = λ p pid rendez number fine low does. in_row p fine pid rendez number (few pid low)
