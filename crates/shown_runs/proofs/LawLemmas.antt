@@ -45,15 +45,23 @@ module _ (program : Program) (given : Spot → Given) (objects : Objects)
     (shown : AreShownCalls program) (have : HaveEnds program given objects) where
   -- it came to a call that is never to be made, and changed nothing else by that
   pub record StopsThere (movers : List ℕ) : Type 0 where
+    -- the schedule before its last step
     pub past : List ℕ
+    -- which a run has followed
     pub before : IsFollowed program given objects are is_program shown past
+    -- the process of that last step
     pub pid : ℕ
+    -- the line where it was
     pub line : Line
+    -- it was about to make its call
     pub is_at : IsAtCall program before.q pid line
+    -- which is never to be made
     pub never : line.call ≡ call.Never
+    -- each process is where it was
     pub same : (position_of (system_of program) movers).processes
         ≡ (position_of (system_of program) past).processes
 
+  -- so it is with each schedule that has reached such a call
   pub stops_there : (movers : List ℕ) → IsSchedule (system_of program) movers
       → AreFewSteps program movers
       → (position_of (system_of program) movers).course ≡ course.Reached → StopsThere movers
