@@ -30,7 +30,7 @@ use Rattle.calls.specs.Program.{IsProgram, Program, procs_of}
 use Rattle.call_machines.specs.Machine.{Outcome}
 use Rattle.call_machines.specs.Programs as machines
 use Rattle.call_machines.specs.Programs.{ProgramState}
-use Rattle.call_machines.specs.Programs.ProgramState.{Ended, In}
+use Rattle.call_machines.specs.Programs.ProgramState.{In}
 use Rattle.call_machines.specs.WaitTables.{WaitState}
 use Rattle.call_machines.specs.WaitTables.WaitState.{Asking, Begun, Leaving, Returning, Waits}
 use Rattle.sema_machines.specs.CallMachines.TryState.{Trying}
@@ -57,13 +57,13 @@ use Rattle.explored_calls.proofs.Queued.{itself}
 use Rattle.explored_calls.proofs.Running.{Follows, Phase, Running, joined_none, timer_in}
 use Rattle.explored_calls.proofs.Running.Phase.{InLine, Is, Noted, Served}
 use Rattle.explored_calls.proofs.RunningSteps
-use Rattle.explored_calls.proofs.RunningSteps.{Begins, GoesTo, goes, goes_is, goes_served, leaving}
-use Rattle.explored_calls.proofs.RunningSteps.{pending, phase_for, served_phase, valued}
+use Rattle.explored_calls.proofs.RunningSteps.{goes, goes_is, leaving}
+use Rattle.explored_calls.proofs.RunningSteps.{pending, phase_for, valued}
 use Rattle.explored_calls.proofs.RunningSteps.{waiting_by, woken}
 use Rattle.explored_calls.proofs.SemaSteps.{IsElsewhere, alone_step, by_reply, goes_now}
 use Rattle.explored_calls.proofs.SemaSteps.{not_waiting, own_step, own_timed, reply_at}
 use Rattle.explored_calls.proofs.UnitFacts
-use Rattle.explored_calls.proofs.UnitFacts.{Answered, IsAlike, Released, alike_self}
+use Rattle.explored_calls.proofs.UnitFacts.{Answered, alike_self}
 use Rattle.explored_calls.proofs.WaitSteps
 
 -- a stage that is granted tests so
@@ -189,15 +189,7 @@ module _ (program : Program) (is_program : IsProgram program) (covered : IsCover
               not_waiting program objects v pipes m fits pid low number there
               (In spot (AtSema number (Takes pid Begun))) is refl
 
-          by_answer : (nat_lt 0 (sema_state objects v.object number).value ≡ true)
-              × Answered (sema_state objects v.object number) (Alone (Acquire pid))
-              (UnitFacts.alone reply.Acquired) (UnitFacts.taken_from (sema_state objects v.object
-              number)) ⊎ (nat_lt 0 (sema_state objects v.object number).value ≡ false)
-              × (((count : ℕ) × Answered (sema_state objects v.object number) (Alone (Acquire pid))
-              (UnitFacts.alone (reply.Wait count))
-              (UnitFacts.waits_at (sema_state objects v.object number) pid))
-              ⊎ Answered (sema_state objects v.object number) (Alone (Acquire pid))
-              (UnitFacts.alone reply.Worn) (sema_state objects v.object number))
+          by_answer : UnitFacts.HasAcquired (sema_state objects v.object number) pid
               → IsStepped program objects m pid pipes
               (heard (Alone (Acquire pid)) (gone (In spot (AtSema number (Takes pid
               Begun))) (Outcome.Replied (BySema
@@ -455,12 +447,7 @@ module _ (program : Program) (is_program : IsProgram program) (covered : IsCover
           by_answer (UnitFacts.collects (sema_state objects v.object number) pid
           (has_seat program objects v m fits number there pid low))
         where
-          by_answer : (stage_of (sema_state objects v.object number) pid ≡ Granted)
-              × Answered (sema_state objects v.object number) (Alone (Collect pid))
-              (UnitFacts.alone reply.Granted) rested
-              ⊎ (stage_of (sema_state objects v.object number) pid ≢ Granted)
-              × ((count : ℕ) × Answered (sema_state objects v.object number) (Alone (Collect pid))
-              (UnitFacts.alone (reply.Wait count)) (sema_state objects v.object number))
+          by_answer : UnitFacts.HasCollected (sema_state objects v.object number) pid
               → Followed (heard (Alone (Collect pid)) (gone (In spot (AtSema number (Takes pid
               Asking))) (Outcome.Replied (BySema
               (hold_answer (sema_state objects v.object number) (Alone (Collect pid)))))))
@@ -533,16 +520,7 @@ module _ (program : Program) (is_program : IsProgram program) (covered : IsCover
           by_answer (UnitFacts.leaves (sema_state objects v.object number) pid
           (has_seat program objects v m fits number there pid low))
         where
-          by_answer : (stage_of (sema_state objects v.object number) pid ≡ Granted)
-              × Answered (sema_state objects v.object number) (Alone (Leave pid))
-              (UnitFacts.alone reply.Granted) rested
-              ⊎ (stage_of (sema_state objects v.object number) pid ≢ Granted)
-              × Answered (sema_state objects v.object number) (Alone (Leave pid))
-              (UnitFacts.alone reply.Gone)
-              (record (sema_state objects v.object number) {
-                stages = slice_set (sema_state objects v.object number).stages pid Idle;
-                waiters = without pid (sema_state objects v.object number).waiters;
-              })
+          by_answer : UnitFacts.HasLeft (sema_state objects v.object number) pid
               → Followed (heard (Alone (Leave pid))
               (gone (In spot (AtSema number (Takes pid (Leaving (fault.Interrupted set)))))
               (Outcome.Replied (BySema
@@ -651,12 +629,7 @@ module _ (program : Program) (is_program : IsProgram program) (covered : IsCover
             ap (waits_in_space program) is,
           )
 
-          by_answer : (nat_lt 0 (sema_state objects v.object number).value ≡ true)
-              × Answered (sema_state objects v.object number) (Alone (AcquireNow pid))
-              (UnitFacts.alone reply.Acquired) (UnitFacts.taken_from (sema_state objects v.object
-              number)) ⊎ (nat_lt 0 (sema_state objects v.object number).value ≡ false)
-              × Answered (sema_state objects v.object number) (Alone (AcquireNow pid))
-              (UnitFacts.alone reply.NotNow) (sema_state objects v.object number)
+          by_answer : UnitFacts.HasTried (sema_state objects v.object number) pid
               → Followed (heard (Alone (AcquireNow pid)) (gone (In spot (AtSema number (Tries pid
               Trying))) (Outcome.Replied (BySema
               (hold_answer (sema_state objects v.object number) (Alone (AcquireNow pid)))))))

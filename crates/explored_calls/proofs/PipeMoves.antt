@@ -57,7 +57,7 @@ use Rattle.explored_calls.proofs.Queued.Amid.{Blocks, Wrote}
 use Rattle.explored_calls.proofs.Running.{Follows, Phase, Running, joined_none}
 use Rattle.explored_calls.proofs.Running.Phase.{Has, Is, Served}
 use Rattle.explored_calls.proofs.RunningPipes as steps
-use Rattle.explored_calls.proofs.RunningPipes.{turned_to}
+use Rattle.explored_calls.proofs.RunningSteps.{now_so}
 use Rattle.explored_calls.proofs.RunningSteps.{GoesTo, goes_is, goes_served}
 use Rattle.explored_calls.proofs.WaitSteps
 
@@ -276,12 +276,12 @@ module _ (program : Program) (is_program : IsProgram program) (covered : IsCover
     pub turns_to : (phase : Phase) (set notes : NoteSet) (dirs : List Direction)
         (object : ObjectStates) (state : ProgramState Spot ObjectCall)
         → object.semas ≡ v.object.semas → object.space ≡ v.object.space
-        → Follows program dirs (turned_to m pid phase set) → notes ≡ set
+        → Follows program dirs (now_so m pid phase set) → notes ≡ set
         → IsPhase program (granted_in program objects object pid) pid state phase
         → PipesFit objects program object.pipes (at_one pid state v.state) dirs
         → IsFollowedTo (moved_to object state notes)
     turns_to phase set notes dirs object state semas space followed notes_are own dirs_fit =
-        follows_to (turned_to m pid phase set) dirs object state notes semas space followed
+        follows_to (now_so m pid phase set) dirs object state notes semas space followed
         (subst (IsPhase program (granted_in program objects object pid) pid state)
         (sym (at_self pid phase m.phase)) own)
         (λ other far. sym (at_else pid other phase m.phase far))
@@ -305,7 +305,7 @@ module _ (program : Program) (is_program : IsProgram program) (covered : IsCover
 
     -- it goes on to a place, by a step of the explorer
     pub steps_on : (place : ℕ) (set notes : NoteSet) → put_by old ≡ None
-        → Follows program pipes (turned_to m pid (Is place) set) → notes ≡ set
+        → Follows program pipes (now_so m pid (Is place) set) → notes ≡ set
         → IsFollowedTo (moved_to v.object (on_to place) notes)
     steps_on place set notes none followed notes_are =
         turns_to (Is place) set notes pipes v.object (on_to place) refl refl followed notes_are
@@ -335,7 +335,7 @@ module _ (program : Program) (is_program : IsProgram program) (covered : IsCover
     -- it has become this amid its call, by a step of the explorer
     pub turns_at : (at : CallState) (phase : Phase) → put_by old ≡ None → put_by at ≡ None
         → IsAwake objects (In spot (AtPipe pipe at))
-        → Follows program pipes (turned_to m pid phase (m.notes pid))
+        → Follows program pipes (now_so m pid phase (m.notes pid))
         → IsPhase program (granted_in program objects v.object pid) pid
         (In spot (AtPipe pipe at)) phase
         → IsFollowedTo (moved_to v.object (In spot (AtPipe pipe at)) (v.notes pid))
@@ -569,7 +569,7 @@ module _ (program : Program) (is_program : IsProgram program) (covered : IsCover
     pub lands_by : (at : CallState) (ends : Ending) (dirs : List Direction) (object : ObjectStates)
         → object.semas ≡ v.object.semas → object.space ≡ v.object.space
         → ((phase : Phase) → GoesTo program phase (after_ending line ends)
-        → Follows program dirs (turned_to m pid phase (m.notes pid)))
+        → Follows program dirs (now_so m pid phase (m.notes pid)))
         → ((state : ProgramState Spot ObjectCall) → IsQuiet objects state
         → PipesFit objects program object.pipes (at_one pid state v.state) dirs)
         → Lands at ends → IsFollowedTo (moved_to object (landed at) (v.notes pid))

@@ -53,12 +53,13 @@ use Rattle.explored_calls.proofs.Queued.Amid.{Blocks, ReadsOn}
 use Rattle.explored_calls.proofs.Running.{Follows, Phase}
 use Rattle.explored_calls.proofs.Running.Phase.{Has, Is, Served}
 use Rattle.explored_calls.proofs.RunningPipes as steps
-use Rattle.explored_calls.proofs.RunningPipes.{Reading, turned_to}
+use Rattle.explored_calls.proofs.RunningPipes.{Reading}
 use Rattle.explored_calls.proofs.RunningPipes.Reading.{Begins, Continues, Retries}
 use Rattle.explored_calls.proofs.RunningSteps.{GoesTo, goes_is}
 use Rattle.explored_calls.proofs.ReadParts.{PartRead, by_reply, came_is, finds_there, none_less}
 use Rattle.explored_calls.proofs.ReadParts.{over_at}
 use Rattle.explored_calls.proofs.ReadParts.{part_got, part_stays, some_less, stays_read}
+use Rattle.explored_calls.proofs.RunningSteps.{now_so}
 
 module _ (program : Program) (is_program : IsProgram program) (covered : IsCovered program)
     (given : Spot → Given) (objects : Objects) (its : PipeCall program objects) where
@@ -369,7 +370,7 @@ module _ (program : Program) (is_program : IsProgram program) (covered : IsCover
         stays_over : (e : DirectionState) (came : ReadOutcome) (out : ReadAnswer)
             → e ≡ d → found_of came ≡ reply.Done out
             → ((phase : Phase) → GoesTo program phase (after_ending line (read_ends out))
-            → Follows program pipes (turned_to m pid phase (m.notes pid)))
+            → Follows program pipes (now_so m pid phase (m.notes pid)))
             → Followed (moved_to (with_pipe e)
             (landed (reads_at (came_so (pipe_at objects pipe).row (length buffer) found_of last
             came))) (v.notes pid))

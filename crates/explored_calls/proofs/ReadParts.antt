@@ -49,8 +49,9 @@ use Rattle.explored_calls.proofs.Queued.Amid.{ReadsOn}
 use Rattle.explored_calls.proofs.Running.{Follows, Phase}
 use Rattle.explored_calls.proofs.Running.Phase.{Has}
 use Rattle.explored_calls.proofs.RunningPipes as steps
-use Rattle.explored_calls.proofs.RunningPipes.{Reading, turned_to}
+use Rattle.explored_calls.proofs.RunningPipes.{Reading}
 use Rattle.explored_calls.proofs.RunningSteps.{GoesTo}
+use Rattle.explored_calls.proofs.RunningSteps.{now_so}
 
 -- in stream mode alone it goes on, if there is room
 on_in : (mode : Mode) (more : Bool) → by_mode mode false more ≡ (is_stream mode && more)
@@ -273,7 +274,7 @@ module _ (program : Program) (is_program : IsProgram program) (covered : IsCover
     part_over : (e : DirectionState) (dirs : List Direction) (came : ReadOutcome) (out : Out)
         (ends : Ending) → came_as came ≡ out
         → ((phase : Phase) → GoesTo program phase (after_ending line ends)
-        → Follows program dirs (turned_to m pid phase (m.notes pid)))
+        → Follows program dirs (now_so m pid phase (m.notes pid)))
         → ((state : ProgramState Spot ObjectCall) → IsQuiet objects state
         → PipesFit objects program (with_pipe e).pipes (at_one pid state v.state) dirs)
         → (now : Option ℕ) → Lands (at (over_at now out)) ends
@@ -290,7 +291,7 @@ module _ (program : Program) (is_program : IsProgram program) (covered : IsCover
     pub part_stays : (e : DirectionState) (came : ReadOutcome) (out : Out) (ends : Ending)
         (last : Option ℕ) → e ≡ d → came_as came ≡ out
         → ((phase : Phase) → GoesTo program phase (after_ending line ends)
-        → Follows program pipes (turned_to m pid phase (m.notes pid)))
+        → Follows program pipes (now_so m pid phase (m.notes pid)))
         → Lands (at (over_at last out)) ends
         → Followed (moved_to (with_pipe e)
         (landed (at (came_so (pipe_at objects pipe).row size came_as last came))) (v.notes pid))

@@ -1,6 +1,6 @@
 -- The moves of a call at a direction of a pipe are steps of the explorer.
-use Rattle.std.proofs.Common.{◌≡◌, ◌⊎◌, inl, inr, ℕ, ◌-◌, ◌<◌, Bool, ◌&&◌, if◌then◌else◌, true}
-use Rattle.std.proofs.Common.{false, Some, None, List, length, nat_lt, refl, sym, ap, ◌∙◌, subst}
+use Rattle.std.proofs.Common.{◌≡◌, ◌⊎◌, inl, inr, ℕ, ◌-◌, ◌<◌, Bool, ◌&&◌, true}
+use Rattle.std.proofs.Common.{false, Some, None, List, length, nat_lt, sym, ap, ◌∙◌, subst}
 use Rattle.std.specs.Prelude.{slice_get, slice_set}
 use Rattle.sync_base.specs.declared.note.Note.TheVariants.{ClosedPipe}
 use Rattle.sync_base.specs.declared.note.NoteSet.{NoteSet}
@@ -20,21 +20,16 @@ use Rattle.explored_calls.proofs.ExplorerPipes as steps
 use Rattle.explored_calls.proofs.ExplorerPipes.{Fills, IsMaking, halted}
 use Rattle.explored_calls.proofs.ExplorerPipes.Fills.{Again, First, Goes}
 use Rattle.explored_calls.proofs.ExplorerSteps.{Reaches}
-use Rattle.explored_calls.proofs.Lists.{at_one}
 use Rattle.explored_calls.proofs.PipePhases.{MayBegin}
 use Rattle.explored_calls.proofs.Queued.{Halt, Queued}
 use Rattle.explored_calls.proofs.Queued.Amid.{Blocks, ReadsOn, Wrote}
 use Rattle.explored_calls.proofs.Queued.Halt.{Free, Stays}
-use Rattle.explored_calls.proofs.Running.{AreSame, Follows, IsNoted, MayTurn, Phase, Running}
+use Rattle.explored_calls.proofs.Running.{Follows, IsNoted, Phase, Running}
 use Rattle.explored_calls.proofs.Running.{notes_by, place_by, reaches_same, seen}
 use Rattle.explored_calls.proofs.Running.{waits_by}
 use Rattle.explored_calls.proofs.Running.Phase.{Has, Is, Served}
-use Rattle.explored_calls.proofs.RunningSteps.{GoesTo, by_one}
-
--- the process goes so now, and these notes of it are pending
-abbrev pub turned_to : Running → ℕ → Phase → NoteSet → Running
-turned_to m pid phase set =
-    record m { phase = at_one pid phase m.phase; notes = at_one pid set m.notes }
+use Rattle.explored_calls.proofs.RunningSteps.{GoesTo}
+use Rattle.explored_calls.proofs.RunningSteps.{may_before, now_same, now_so}
 
 -- a read of so many bytes at this place, with room for so many, goes so
 pub data Reading (pipe place size room : ℕ) (made : Call) (phase : Phase) : Type 0 where
@@ -58,52 +53,17 @@ module _ (program : Program) (pipes : List Direction) (m : Running)
       → Reaches program (halted (seen program pipes m turned) pid
       (place_by program phase (turned pid)) (waits_by phase (turned pid))
       (notes_by phase (turned pid) set) next))
-      → Follows program next (turned_to m pid phase set)
+      → Follows program next (now_so m pid phase set)
   follows_so phase set next stays step turned may =
-      reaches_same program _ _ same (step turned (follows turned may_now))
-    where
-      may_now : MayTurn m turned
-      may_now other is =
-          by_one pid other
-          (λ test. IsNoted (if test then phase else m.phase other) → IsNoted (m.phase other))
-          (λ same noted. absurd (stays noted)) (λ apart noted. noted) (may other is)
-
-      same : AreSame (procs_of program) (halted (seen program pipes m turned) pid
-          (place_by program phase (turned pid)) (waits_by phase (turned pid))
-          (notes_by phase (turned pid) set) next)
-          (seen program next (turned_to m pid phase set) turned)
-      same =
-          record {
-            place = λ other less. by_one pid other
-                (λ test. (if test then place_by program phase (turned pid)
-                else place_by program (m.phase other) (turned other))
-                ≡ place_by program (if test then phase else m.phase other) (turned other))
-                (λ is. ap (λ (n : ℕ). place_by program phase (turned n)) (sym is))
-                (λ apart. refl);
-            waits = λ other less. by_one pid other
-                (λ test. (if test then waits_by phase (turned pid)
-                else waits_by (m.phase other) (turned other))
-                ≡ waits_by (if test then phase else m.phase other) (turned other))
-                (λ is. ap (λ (n : ℕ). waits_by phase (turned n)) (sym is))
-                (λ apart. refl);
-            notes = λ other less. by_one pid other
-                (λ test. (if test then notes_by phase (turned pid) set
-                else notes_by (m.phase other) (turned other) (m.notes other))
-                ≡ notes_by (if test then phase else m.phase other) (turned other)
-                (if test then set else m.notes other))
-                (λ is. ap (λ (n : ℕ). notes_by phase (turned n) set) (sym is))
-                (λ apart. refl);
-            values = refl;
-            pipes = refl;
-            line = λ what. refl;
-          }
+      reaches_same program _ _ (now_same program pipes next m pid phase set turned)
+      (step turned (follows turned (may_before m pid phase turned stays may)))
 
   -- to where it is at a place, or will be
   leads_to : (phase : Phase) (to : ℕ) (set : NoteSet) (next : List Direction)
       → GoesTo program phase to
       → ((turned : ℕ → Bool) → Reaches program (seen program pipes m turned)
       → Reaches program (halted (seen program pipes m turned) pid to Free set next))
-      → Follows program next (turned_to m pid phase set)
+      → Follows program next (now_so m pid phase set)
   leads_to phase to set next done step =
       follows_so phase set next done.stays
       (λ turned reaches.
@@ -221,7 +181,7 @@ module _ (program : Program) (pipes : List Direction) (m : Running)
         pub write_taken : MayBegin place (m.phase pid) → x.is_hung ≡ false
             → nat_lt (length x.writes) (limit_at program pipe) ≡ true
             → Follows program (slice_set pipes pipe (accepted pid bytes x))
-            (turned_to m pid (Has place Wrote) (m.notes pid))
+            (now_so m pid (Has place Wrote) (m.notes pid))
         write_taken may stays room =
             follows_so (Has place Wrote) (m.notes pid) _ (λ noted. noted)
             (λ turned reaches. stays_so (Stays Wrote) _ may turned
@@ -231,7 +191,7 @@ module _ (program : Program) (pipes : List Direction) (m : Running)
         -- or there is no room
         pub write_blocked : m.phase pid ≡ Is place → x.is_hung ≡ false
             → nat_lt (length x.writes) (limit_at program pipe) ≡ false
-            → Follows program pipes (turned_to m pid (Has place Blocks) (m.notes pid))
+            → Follows program pipes (now_so m pid (Has place Blocks) (m.notes pid))
         write_blocked is stays full =
             follows_so (Has place Blocks) (m.notes pid) _ (λ noted. noted)
             (λ turned reaches. stays_so (Stays Blocks) _ (inl is) turned
@@ -242,7 +202,7 @@ module _ (program : Program) (pipes : List Direction) (m : Running)
         -- or the direction is hung up
         pub write_refused : MayBegin place (m.phase pid) → x.is_hung ≡ true
             → Follows program pipes
-            (turned_to m pid (Served line.closed (only ClosedPipe)) (m.notes pid))
+            (now_so m pid (Served line.closed (only ClosedPipe)) (m.notes pid))
         write_refused may hangs =
             follows_so (Served line.closed (only ClosedPipe)) (m.notes pid) _ (λ noted. noted)
             (λ turned reaches.
@@ -254,7 +214,7 @@ module _ (program : Program) (pipes : List Direction) (m : Running)
       -- it stands, and the process goes on
       pub write_stands : m.phase pid ≡ Has place Wrote → (phase : Phase)
           → GoesTo program phase line.next
-          → Follows program (slice_set pipes pipe (stood pid x)) (turned_to m pid phase (m.notes
+          → Follows program (slice_set pipes pipe (stood pid x)) (now_so m pid phase (m.notes
           pid))
       write_stands is phase done =
           leads_to phase line.next (m.notes pid) _ done
@@ -269,7 +229,7 @@ module _ (program : Program) (pipes : List Direction) (m : Running)
       -- the direction is hung up, and the process goes on
       pub hangs_up : m.phase pid ≡ Is place → line.call ≡ call.Hangup pipe → (phase : Phase)
           → GoesTo program phase line.next
-          → Follows program (slice_set pipes pipe (hung x)) (turned_to m pid phase (m.notes pid))
+          → Follows program (slice_set pipes pipe (hung x)) (now_so m pid phase (m.notes pid))
       hangs_up is made phase done =
           leads_to phase line.next (m.notes pid) _ done
           (λ turned reaches. with_notes turned line.next Free _ (m.notes pid)
@@ -369,7 +329,7 @@ module _ (program : Program) (pipes : List Direction) (m : Running)
             → Shown (halted (seen program pipes m turned) pid to Free
             ((seen program pipes m turned).notes pid) next) turned reaches)
             → (phase : Phase) → GoesTo program phase to
-            → Follows program next (turned_to m pid phase (m.notes pid))
+            → Follows program next (now_so m pid phase (m.notes pid))
         read_leads to next answer shows phase done =
             leads_to phase to (m.notes pid) _ done
             (λ turned reaches. with_notes turned to Free _ (m.notes pid) (reader turned).notes_is
@@ -379,7 +339,7 @@ module _ (program : Program) (pipes : List Direction) (m : Running)
         pub reads_part : (more : ℕ) → room - (opened x).rest ≡ more → finds x ≡ found.Bytes
             → (is_stream_at program pipe && nat_lt 0 more) ≡ true
             → Follows program (slice_set pipes pipe (read_from room x))
-            (turned_to m pid (Has place (ReadsOn more)) (m.notes pid))
+            (now_so m pid (Has place (ReadsOn more)) (m.notes pid))
         reads_part more same is on =
             follows_so (Has place (ReadsOn more)) (m.notes pid) _ (λ noted. noted)
             (λ turned reaches. stays_there (Stays (ReadsOn more)) _ turned
@@ -392,7 +352,7 @@ module _ (program : Program) (pipes : List Direction) (m : Running)
             → (is_stream_at program pipe && nat_lt 0 more) ≡ false
             → (phase : Phase) → GoesTo program phase line.next
             → Follows program (slice_set pipes pipe (read_from room x))
-            (turned_to m pid phase (m.notes pid))
+            (now_so m pid phase (m.notes pid))
         reads_last more same is over =
             read_leads line.next _ (λ blocks. ap is_answer is)
             (λ turned reaches. steps.last_shown program (seen program pipes m turned) reaches pid
@@ -401,7 +361,7 @@ module _ (program : Program) (pipes : List Direction) (m : Running)
         -- or finds the end
         pub reads_end : (ends : Ending) → end_found line room ≡ ends → finds x ≡ found.End
             → (phase : Phase) → GoesTo program phase (after_ending line ends)
-            → Follows program pipes (turned_to m pid phase (m.notes pid))
+            → Follows program pipes (now_so m pid phase (m.notes pid))
         reads_end ends how is =
             read_leads (after_ending line ends) _ (λ blocks. ap is_answer is)
             (λ turned reaches. steps.end_shown program (seen program pipes m turned) reaches pid
@@ -413,7 +373,7 @@ module _ (program : Program) (pipes : List Direction) (m : Running)
           -- it has taken bytes, and is over
           pub reads_some : nat_lt room size ≡ true
               → (phase : Phase) → GoesTo program phase line.next
-              → Follows program pipes (turned_to m pid phase (m.notes pid))
+              → Follows program pipes (now_so m pid phase (m.notes pid))
           reads_some some =
               read_leads line.next _ (λ blocks. absurd (fresh blocks))
               (λ turned reaches. steps.some_shown program (seen program pipes m turned) reaches pid
@@ -421,7 +381,7 @@ module _ (program : Program) (pipes : List Direction) (m : Running)
 
           -- or has none, and waits
           pub reads_nothing : nat_lt room size ≡ false → line.call ≡ call.Read pipe size None
-              → Follows program pipes (turned_to m pid (Has place Blocks) (m.notes pid))
+              → Follows program pipes (now_so m pid (Has place Blocks) (m.notes pid))
           reads_nothing none so =
               follows_so (Has place Blocks) (m.notes pid) _ (λ noted. noted)
               (λ turned reaches. stays_there (Stays Blocks) _ turned
@@ -432,7 +392,7 @@ module _ (program : Program) (pipes : List Direction) (m : Running)
           -- or goes the other way
           pub reads_other : nat_lt room size ≡ false → line.call ≡ call.TryRead pipe size
               → (phase : Phase) → GoesTo program phase line.other
-              → Follows program pipes (turned_to m pid phase (m.notes pid))
+              → Follows program pipes (now_so m pid phase (m.notes pid))
           reads_other none so =
               read_leads line.other _ (λ blocks. absurd (fresh blocks))
               (λ turned reaches. steps.other_shown program (seen program pipes m turned) reaches
@@ -443,7 +403,7 @@ module _ (program : Program) (pipes : List Direction) (m : Running)
     -- the process takes its notes and goes the other way
     pub turns_away : m.phase pid ≡ Has place Blocks → has_notes (m.notes pid) ≡ true
         → (phase : Phase) → GoesTo program phase line.other
-        → Follows program pipes (turned_to m pid phase no_notes)
+        → Follows program pipes (now_so m pid phase no_notes)
     turns_away is notes phase done =
         leads_to phase line.other no_notes _ done
         (λ turned reaches.

@@ -87,6 +87,7 @@ use Rattle.explored_calls.proofs.PipePhases.{pipe_in}
 use Rattle.explored_calls.proofs.Running.{Phase}
 use Rattle.explored_calls.proofs.Running.Phase.{InLine, Served}
 use Rattle.explored_calls.proofs.StuckLemmas.{HowItWaits}
+use Rattle.calls.specs.declared.process.Want.{Want}
 
 module _ (program : Program) (given : Spot → Given) (objects : Objects) where
   -- a process that has ended, or waits without a unit
@@ -102,6 +103,19 @@ module _ (program : Program) (given : Spot → Given) (objects : Objects) where
     pub how : HowItWaits program pipes phase spot.place line.call
     -- if the line heads a loop the process may rest there
     pub rests : line.is_served ≡ true → rests_at (is_at_head program) state ≡ true
+
+  -- one that waits so at its line may rest there, if that heads a loop
+  stands_so : (pipes : List Direction) (spot : Spot) (c : ObjectCall) (line : Line) (phase : Phase)
+      → slice_get program.lines spot.place ≡ Some line
+      → HowItWaits program pipes phase spot.place line.call → Sleeps pipes (In spot c) phase
+  stands_so pipes spot c line phase there how =
+      record {
+        spot = spot;
+        line = line;
+        line_is = there;
+        how = how;
+        rests = λ served. ap is_served_in there ∙ served;
+      }
 
   -- what the machine of a process does next
   abbrev pub does : ProgramState Spot ObjectCall → Next ObjectRequest Unit
@@ -222,6 +236,17 @@ module _ (program : Program) (given : Spot → Given) (objects : Objects) where
 
   module _ (pipes : List Direction) (states : ℕ → ProgramState Spot ObjectCall) (s : ObjectStates)
       (piped : PipesFit objects program s.pipes states pipes) where
+    -- one whose object does not let it go on was granted nothing
+    not_granted : (what : Want) (seat pid : ℕ) → seat ≡ pid
+        → (granted_in program objects s seat what ≡ true → ⊥)
+        → granted_in program objects s pid what ≡ false
+    not_granted what seat pid same stays = by_go (granted_in program objects s pid what) refl
+      where
+        by_go : (go : Bool) → granted_in program objects s pid what ≡ go → go ≡ false
+        by_go true granted =
+            absurd (stays (ap (λ (n : ℕ). granted_in program objects s n what) same ∙ granted))
+        by_go false granted = refl
+
     -- ---- a call that sleeps at a direction
 
     module _ (pipe : ℕ) (there : pipe < length program.pipes) (at : Position)
@@ -281,17 +306,12 @@ module _ (program : Program) (given : Spot → Given) (objects : Objects) where
         → Sleeps pipes (In spot (AtPipe pipe at)) phase
     pipe_sleeps pid spot pipe (Writes writer bytes (PipeTries (PutState.Told (reply.Wait n)))) phase
         rendez number is asleep stays =
-        record {
-          spot = spot;
-          line = is.1.line;
-          line_is = is.1.is_at.line_is;
-          how = inr (inl (
-            is.1.phase_is,
-            λ at same. ap (is_answered program at) is.1.is_at.call_is
-                ∙ unwritable pipe is.1.is_at.low at same bytes stays,
-          ));
-          rests = λ served. ap is_served_in is.1.is_at.line_is ∙ served;
-        }
+        stands_so pipes spot _ is.1.line phase is.1.is_at.line_is
+        (inr (inl (
+          is.1.phase_is,
+          λ at same. ap (is_answered program at) is.1.is_at.call_is
+              ∙ unwritable pipe is.1.is_at.low at same bytes stays,
+        )))
     pipe_sleeps pid spot pipe (Writes writer bytes (PipeTries (PutState.Told (reply.Done n)))) phase
         rendez number is asleep stays = absurd cc
     pipe_sleeps pid spot pipe (Writes writer bytes (PipeTries (PutState.Told (reply.Refused why))))
@@ -308,17 +328,12 @@ module _ (program : Program) (given : Spot → Given) (objects : Objects) where
         stays = absurd is
     pipe_sleeps pid spot pipe (Reads buffer (PipeTries (FillState.Told (Ok (reply.Wait n))))) phase
         rendez number is asleep stays =
-        record {
-          spot = spot;
-          line = is.1.line;
-          line_is = is.1.is_at.line_is;
-          how = inr (inl (
-            is.1.phase_is,
-            λ at same. ap (is_answered program at) is.1.is_at.call_is
-                ∙ unreadable pipe is.1.is_at.low at same (length buffer) stays,
-          ));
-          rests = λ served. ap is_served_in is.1.is_at.line_is ∙ served;
-        }
+        stands_so pipes spot _ is.1.line phase is.1.is_at.line_is
+        (inr (inl (
+          is.1.phase_is,
+          λ at same. ap (is_answered program at) is.1.is_at.call_is
+              ∙ unreadable pipe is.1.is_at.low at same (length buffer) stays,
+        )))
     pipe_sleeps pid spot pipe (Reads buffer (PipeTries (FillState.Told (Ok (reply.Done out)))))
         phase rendez number is asleep stays = absurd is.1.phase_is
     pipe_sleeps pid spot pipe (Reads buffer (PipeTries (FillState.Told (Ok (reply.Refused why)))))
@@ -342,17 +357,12 @@ module _ (program : Program) (given : Spot → Given) (objects : Objects) where
     pipe_sleeps pid spot pipe
         (Reads buffer (PipeTries (FillState.WakingWriters woken level (reply.Wait n)))) phase rendez
         number is asleep stays =
-        record {
-          spot = spot;
-          line = is.1.line;
-          line_is = is.1.is_at.line_is;
-          how = inr (inl (
-            is.1.phase_is,
-            λ at same. ap (is_answered program at) is.1.is_at.call_is
-                ∙ unreadable pipe is.1.is_at.low at same (length buffer) stays,
-          ));
-          rests = λ served. ap is_served_in is.1.is_at.line_is ∙ served;
-        }
+        stands_so pipes spot _ is.1.line phase is.1.is_at.line_is
+        (inr (inl (
+          is.1.phase_is,
+          λ at same. ap (is_answered program at) is.1.is_at.call_is
+              ∙ unreadable pipe is.1.is_at.low at same (length buffer) stays,
+        )))
     pipe_sleeps pid spot pipe
         (Reads buffer (PipeTries (FillState.WakingWriters woken level (reply.Refused why)))) phase
         rendez number is asleep stays = absurd is.1.phase_is
@@ -392,33 +402,18 @@ module _ (program : Program) (given : Spot → Given) (objects : Objects) where
     sleeps pid (In spot (AtSema sema (Takes seat (Waits count)))) phase rendez number is untimed
         asleep
         stays =
-        record {
-          spot = spot;
-          line = is.1.line;
-          line_is = is.1.is_at.line_is;
-          how = inl (
-            want.Unit sema,
-            subst (λ (d : Option ℕ). WaitsAs {Out = Unit} d
-                (granted_in program objects s pid (want.Unit sema)) spot.place is.1.line.next
-                (want.Unit sema) (Waits count) phase)
-                (no_deadline is.1.deadline sema (sym (ap has_deadline is.1.is_at.call_is)
-                ∙ untimed is.1.line is.1.is_at.line_is)) is.1.phase_is
-                ∙ ap (λ (go : Bool). if go then Served is.1.line.next no_notes
-                else InLine spot.place (want.Unit sema)) (not_granted (granted_in program objects s
-                pid
-                (want.Unit sema)) refl),
-          );
-          rests = λ served. ap is_served_in is.1.is_at.line_is ∙ served;
-        }
-      where
-        not_granted : (go : Bool) → granted_in program objects s pid (want.Unit sema) ≡ go → go ≡
-            false
-        not_granted true granted =
-            absurd (stays (ap (granted_seat sema) is.1.seat_is ∙ granted))
-          where
-            granted_seat : ℕ → ℕ → Bool
-            granted_seat sema seat = granted_in program objects s seat (want.Unit sema)
-        not_granted false granted = refl
+        stands_so pipes spot _ is.1.line phase is.1.is_at.line_is
+        (inl (
+          want.Unit sema,
+          subst (λ (d : Option ℕ). WaitsAs {Out = Unit} d
+              (granted_in program objects s pid (want.Unit sema)) spot.place is.1.line.next
+              (want.Unit sema) (Waits count) phase)
+              (no_deadline is.1.deadline sema (sym (ap has_deadline is.1.is_at.call_is)
+              ∙ untimed is.1.line is.1.is_at.line_is)) is.1.phase_is
+              ∙ ap (λ (go : Bool). if go then Served is.1.line.next no_notes
+              else InLine spot.place (want.Unit sema)) (not_granted (want.Unit sema) seat pid
+              is.1.seat_is stays),
+        ))
     sleeps pid (In spot (AtSema sema (Takes seat Asking))) phase rendez number is untimed asleep
         stays =
         absurd cc
@@ -465,15 +460,6 @@ module _ (program : Program) (given : Spot → Given) (objects : Objects) where
         (no_deadline_met is.1.deadline meeting.offered.tag.0 (sym (ap has_deadline is.1.call_is)
         ∙ untimed is.1.line is.1.line_is)) is.1.phase_is) asleep
       where
-        not_met : (go : Bool)
-            → granted_in program objects s pid (want.Partner meeting.offered.tag.0) ≡ go → go ≡
-            false
-        not_met true met =
-            absurd (stays (ap (λ (member : ℕ).
-            granted_in program objects s member (want.Partner meeting.offered.tag.0)) is.1.member_is
-            ∙ met))
-        not_met false met = refl
-
         by_at : (at : MeetState)
             → MeetPhase (granted_in program objects s pid (want.Partner meeting.offered.tag.0))
             spot.place is.1.line.next (want.Partner meeting.offered.tag.0) at phase
@@ -481,20 +467,15 @@ module _ (program : Program) (given : Spot → Given) (objects : Objects) where
             → Sleeps pipes (In spot (InSpace meeting)) phase
         by_at (Calls Begun) phase_is sleeping = absurd cc
         by_at (Calls (Waits count)) phase_is sleeping =
-            record {
-              spot = spot;
-              line = is.1.line;
-              line_is = is.1.line_is;
-              how = inl (
-                want.Partner meeting.offered.tag.0,
-                phase_is
-                    ∙ ap (λ (go : Bool). if go then Served is.1.line.next no_notes
-                    else InLine spot.place (want.Partner meeting.offered.tag.0))
-                    (not_met (granted_in program objects s pid
-                    (want.Partner meeting.offered.tag.0)) refl),
-              );
-              rests = λ served. ap is_served_in is.1.line_is ∙ served;
-            }
+            stands_so pipes spot _ is.1.line phase is.1.line_is
+            (inl (
+              want.Partner meeting.offered.tag.0,
+              phase_is
+                  ∙ ap (λ (go : Bool). if go then Served is.1.line.next no_notes
+                  else InLine spot.place (want.Partner meeting.offered.tag.0))
+                  (not_granted (want.Partner meeting.offered.tag.0) meeting.member pid
+                  is.1.member_is stays),
+            ))
         by_at (Calls Asking) phase_is sleeping = absurd cc
         by_at (Calls (Leaving why)) phase_is sleeping = absurd cc
         by_at (Calls (Returning set out)) phase_is sleeping = absurd cc
@@ -521,22 +502,17 @@ module _ (program : Program) (given : Spot → Given) (objects : Objects) where
         → Sleeps pipes (In spot c) phase
     sleeps_timed pid spot until (AtSema sema (Takes seat (Waits count))) failed phase rendez number
         is kind asleep stays =
-        record {
-          spot = spot;
-          line = is.1.line;
-          line_is = is.1.is_at.line_is;
-          how = inr (inr (
-            waits_so.0,
-            (
-              want.Unit sema,
-              waits_so.1 ∙ ap (λ (go : Bool). Timed spot.place
-                  (if go then Timing.Served waits_so.0 else Timing.Waits waits_so.0
-                  (want.Unit sema)) no_notes)
-                  (not_granted (granted_in program objects s pid (want.Unit sema)) refl),
-            ),
-          ));
-          rests = λ served. ap is_served_in is.1.is_at.line_is ∙ served;
-        }
+        stands_so pipes spot _ is.1.line phase is.1.is_at.line_is
+        (inr (inr (
+          waits_so.0,
+          (
+            want.Unit sema,
+            waits_so.1 ∙ ap (λ (go : Bool). Timed spot.place
+                (if go then Timing.Served waits_so.0 else Timing.Waits waits_so.0
+                (want.Unit sema)) no_notes)
+                (not_granted (want.Unit sema) seat pid is.1.seat_is stays),
+          ),
+        )))
       where
         same_line : is.1.line ≡ kind.line
         same_line = grind (arith, sym is.1.is_at.line_is ∙ kind.line_is)
@@ -559,15 +535,6 @@ module _ (program : Program) (given : Spot → Given) (objects : Objects) where
         waits_so =
             set_phase Unit (granted_in program objects s pid (want.Unit sema)) spot.place
             (want.Unit sema) count phase timed_so kind.so.1
-
-        not_granted : (go : Bool) → granted_in program objects s pid (want.Unit sema) ≡ go
-            → go ≡ false
-        not_granted true granted =
-            absurd (stays (ap (granted_seat sema) is.1.seat_is ∙ granted))
-          where
-            granted_seat : ℕ → ℕ → Bool
-            granted_seat sema seat = granted_in program objects s seat (want.Unit sema)
-        not_granted false granted = refl
     sleeps_timed pid spot until (AtSema sema (Takes seat Begun)) failed phase rendez number is kind
         asleep stays = absurd kind.so.0
     sleeps_timed pid spot until (AtSema sema (Takes seat Asking)) failed phase rendez number is kind
@@ -589,15 +556,6 @@ module _ (program : Program) (given : Spot → Given) (objects : Objects) where
             sym (ap deadline_of is.1.call_is)
             ∙ (ap (λ (l : Line). deadline_of l.call) same_line ∙ kind.moment_is)
 
-        not_met : (go : Bool)
-            → granted_in program objects s pid (want.Partner meeting.offered.tag.0) ≡ go
-            → go ≡ false
-        not_met true met =
-            absurd (stays (ap (λ (member : ℕ).
-            granted_in program objects s member (want.Partner meeting.offered.tag.0)) is.1.member_is
-            ∙ met))
-        not_met false met = refl
-
         by_at : (at : MeetState)
             → MeetsAs is.1.deadline
             (granted_in program objects s pid (want.Partner meeting.offered.tag.0))
@@ -610,23 +568,18 @@ module _ (program : Program) (given : Spot → Given) (objects : Objects) where
             → Sleeps pipes (In spot (InSpace meeting)) phase
         by_at (Calls Begun) phase_is so sleeping = absurd so.0
         by_at (Calls (Waits count)) phase_is so sleeping =
-            record {
-              spot = spot;
-              line = is.1.line;
-              line_is = is.1.line_is;
-              how = inr (inr (
-                waits_so.0,
-                (
-                  want.Partner meeting.offered.tag.0,
-                  waits_so.1 ∙ ap (λ (go : Bool). Timed spot.place
-                      (if go then Timing.Served waits_so.0 else Timing.Waits waits_so.0
-                      (want.Partner meeting.offered.tag.0)) no_notes)
-                      (not_met (granted_in program objects s pid
-                      (want.Partner meeting.offered.tag.0)) refl),
-                ),
-              ));
-              rests = λ served. ap is_served_in is.1.line_is ∙ served;
-            }
+            stands_so pipes spot _ is.1.line phase is.1.line_is
+            (inr (inr (
+              waits_so.0,
+              (
+                want.Partner meeting.offered.tag.0,
+                waits_so.1 ∙ ap (λ (go : Bool). Timed spot.place
+                    (if go then Timing.Served waits_so.0 else Timing.Waits waits_so.0
+                    (want.Partner meeting.offered.tag.0)) no_notes)
+                    (not_granted (want.Partner meeting.offered.tag.0) meeting.member pid
+                    is.1.member_is stays),
+              ),
+            )))
           where
             waits_so : HasClock spot.place
                 (λ clock. if granted_in program objects s pid (want.Partner meeting.offered.tag.0)

@@ -62,7 +62,7 @@ use Rattle.explored_calls.proofs.TimedViews.{Comes, fits_own, inner_view}
 use Rattle.explored_calls.proofs.TimedViews.{own_to, timed}
 use Rattle.explored_calls.proofs.TimerFits.{Finds, finds_so, seat_timer}
 use Rattle.explored_calls.proofs.TimerFits.Finds.{FindsNone, FindsOne}
-use Rattle.explored_calls.proofs.TimingSteps.{now_so}
+use Rattle.explored_calls.proofs.RunningSteps.{now_so}
 use Rattle.explored_calls.proofs.TimedViews.{Mover}
 use Rattle.explored_calls.proofs.TickFacts.{back, comes_to, goes_to, hook_quiet, many, out_of}
 use Rattle.explored_calls.proofs.TickFacts.{over_at, own_unset, puts_none, says, settles_tick}

@@ -39,7 +39,8 @@ use Rattle.explored_calls.proofs.RunningSteps.{by_one}
 use Rattle.explored_calls.proofs.TimerFits.{first_seats, read_as, seat_timer, takes_timer}
 use Rattle.explored_calls.proofs.TimerFits.{timers_so}
 use Rattle.explored_calls.proofs.TimingSteps.{becomes_shows, follows_halts, goes_to, its_line}
-use Rattle.explored_calls.proofs.TimingSteps.{may_before, now_so, process_is}
+use Rattle.explored_calls.proofs.TimingSteps.{process_is}
+use Rattle.explored_calls.proofs.RunningSteps.{may_before, now_so}
 
 -- what a function is that was changed at another number
 at_else : {A : Type 0} (one other : ℕ) (x : A) (f : ℕ → A) → other ≢ one
@@ -536,7 +537,7 @@ module _ (program : Program) (pipes : List Direction) (m : Running)
     where
       may_now : MayTurn m turned
       may_now =
-          may_before program pipes m follows pid low after_telling turned goes_on_so.stays may
+          may_before m pid after_telling turned goes_on_so.stays may
 
       q : Queued
       q = seen program pipes m turned

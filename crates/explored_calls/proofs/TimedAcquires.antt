@@ -1,7 +1,7 @@
 -- The moves of a semacquire with a deadline at its semaphore, once its timer is set, are followed
 -- by
 -- the explorer.
-use Rattle.std.proofs.Common.{◌≡◌, ◌≢◌, ◌⊎◌, inl, inr, ℕ, ◌<◌, Bool, if◌then◌else◌, true}
+use Rattle.std.proofs.Common.{◌≡◌, ◌≢◌, inl, inr, ℕ, ◌<◌, Bool, if◌then◌else◌, true}
 use Rattle.std.proofs.Common.{false, Some, List, length, refl, sym, ap, ◌∙◌, subst}
 use Rattle.std.proofs.Common.{Ok, Err}
 use Rattle.std.specs.Prelude.{slice_get, slice_index, slice_set}
@@ -52,9 +52,9 @@ use Rattle.explored_calls.proofs.Running.Phase.{Timed}
 use Rattle.explored_calls.proofs.RunningSteps.{by_one}
 use Rattle.explored_calls.proofs.SemaSteps.{alone_timed, own_timed}
 use Rattle.explored_calls.proofs.TimingSteps as steps
-use Rattle.explored_calls.proofs.TimingSteps.{now_so}
+use Rattle.explored_calls.proofs.RunningSteps.{now_so}
 use Rattle.explored_calls.proofs.UnitFacts
-use Rattle.explored_calls.proofs.UnitFacts.{Answered, alike_self}
+use Rattle.explored_calls.proofs.UnitFacts.{alike_self}
 
 -- what is set to what it was is as it was
 pub still : {A : Type 0} (one : ℕ) (f : ℕ → A) (other : ℕ) → at_one one (f one) f other ≡ f other
@@ -272,12 +272,7 @@ module _ (program : Program) (is_program : IsProgram program) (covered : IsCover
         by_answer (UnitFacts.collects (sema_state objects v.object number) pid
         (has_seat program objects v m fits number there pid low))
       where
-        by_answer : (stage_of (sema_state objects v.object number) pid ≡ Granted)
-            × Answered (sema_state objects v.object number) (Alone (Collect pid))
-            (UnitFacts.alone reply.Granted) at_rest
-            ⊎ (stage_of (sema_state objects v.object number) pid ≢ Granted)
-            × ((count : ℕ) × Answered (sema_state objects v.object number) (Alone (Collect pid))
-            (UnitFacts.alone (reply.Wait count)) (sema_state objects v.object number))
+        by_answer : UnitFacts.HasCollected (sema_state objects v.object number) pid
             → Steps (asked_at (Alone (Collect pid)) Asking)
         by_answer (inl has) =
             let so = goes_so waiting_so true (granted_yes _ has.0) clock phase in
@@ -335,16 +330,7 @@ module _ (program : Program) (is_program : IsProgram program) (covered : IsCover
         by_answer (UnitFacts.leaves (sema_state objects v.object number) pid
         (has_seat program objects v m fits number there pid low))
       where
-        by_answer : (stage_of (sema_state objects v.object number) pid ≡ Granted)
-            × Answered (sema_state objects v.object number) (Alone (Leave pid))
-            (UnitFacts.alone reply.Granted) at_rest
-            ⊎ (stage_of (sema_state objects v.object number) pid ≢ Granted)
-            × Answered (sema_state objects v.object number) (Alone (Leave pid))
-            (UnitFacts.alone reply.Gone)
-            (record (sema_state objects v.object number) {
-              stages = slice_set (sema_state objects v.object number).stages pid Idle;
-              waiters = without pid (sema_state objects v.object number).waiters;
-            })
+        by_answer : UnitFacts.HasLeft (sema_state objects v.object number) pid
             → Steps (asked_at (Alone (Leave pid)) (Leaving (fault.Interrupted set)))
         by_answer (inl has) =
             let so = goes_so (leaving_so set) true (granted_yes _ has.0) clock phase in

@@ -52,7 +52,7 @@ use Rattle.explored_calls.proofs.SpaceFits.{OwesAlone, stands_alone, with_space}
 use Rattle.explored_calls.proofs.SpaceMoves as moves
 use Rattle.explored_calls.proofs.TimedAcquires.{still}
 use Rattle.explored_calls.proofs.TimingSteps as steps
-use Rattle.explored_calls.proofs.TimingSteps.{now_so}
+use Rattle.explored_calls.proofs.RunningSteps.{now_so}
 
 module _ (program : Program) (is_program : IsProgram program) (covered : IsCovered program)
     (given : Spot → Given) (objects : Objects) where

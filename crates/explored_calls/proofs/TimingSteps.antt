@@ -33,17 +33,13 @@ use Rattle.explored_calls.proofs.Queued.{is_for, is_timed_for, itself, leaves_as
 use Rattle.explored_calls.proofs.Queued.{timer_at, timing_is}
 use Rattle.explored_calls.proofs.Queued.Halt.{Times}
 use Rattle.explored_calls.proofs.QueuedSteps.{halts, process_as, shows_halts, shows_leaves}
-use Rattle.explored_calls.proofs.Running.{AreSame, Follows, IsNoted, MayTurn, Phase, Running}
+use Rattle.explored_calls.proofs.Running.{AreSame, Follows, IsNoted, Phase, Running}
 use Rattle.explored_calls.proofs.Running.{joined_none, left_gone, left_of, left_same_tests}
 use Rattle.explored_calls.proofs.Running.{left_without, line_seats, notes_by, place_by}
 use Rattle.explored_calls.proofs.Running.{reaches_same, seen, waits_by}
 use Rattle.explored_calls.proofs.Running.Phase.{Timed}
 use Rattle.explored_calls.proofs.RunningSteps.{by_one}
-
--- the process goes so now, and these notes of it are pending
-abbrev pub now_so : Running → ℕ → Phase → NoteSet → Running
-now_so m pid phase set =
-    record m { phase = at_one pid phase m.phase; notes = at_one pid set m.notes }
+use Rattle.explored_calls.proofs.RunningSteps.{may_before, now_same, now_so}
 
 -- a clock counts as used, whether it runs or has run out
 pub clock_used : (clock : Clock) → is_used (clock_is clock) ≡ true
@@ -112,15 +108,6 @@ module _ (program : Program) (q : Queued) (reaches : Reaches program q) (pid : �
 
 module _ (program : Program) (pipes : List Direction) (m : Running)
     (follows : Follows program pipes m) (pid : ℕ) (low : pid < procs_of program) where
-  -- who may turn after a step of one that has not turned away might turn before
-  pub may_before : (phase : Phase) (turned : ℕ → Bool) → (IsNoted phase → ⊥)
-      → ((other : ℕ) → turned other ≡ true → IsNoted (at_one pid phase m.phase other))
-      → MayTurn m turned
-  may_before phase turned stays may other is =
-      by_one pid other
-      (λ test. IsNoted (if test then phase else m.phase other) → IsNoted (m.phase other))
-      (λ same noted. absurd (stays noted)) (λ apart noted. noted) (may other is)
-
   -- a step of the explorer by which the process alone becomes another
   pub follows_halts : (phase : Phase) (set : NoteSet) → (IsNoted phase → ⊥)
       → ((turned : ℕ → Bool) → Reaches program (seen program pipes m turned)
@@ -129,38 +116,8 @@ module _ (program : Program) (pipes : List Direction) (m : Running)
       (notes_by phase (turned pid) set)))
       → Follows program pipes (now_so m pid phase set)
   follows_halts phase set stays step turned may =
-      reaches_same program _ _ same
-      (step turned (follows turned (may_before phase turned stays may)))
-    where
-      same : AreSame (procs_of program) (halts (seen program pipes m turned) pid
-          (place_by program phase (turned pid)) (waits_by phase (turned pid))
-          (notes_by phase (turned pid) set))
-          (seen program pipes (now_so m pid phase set) turned)
-      same =
-          record {
-            place = λ other less. by_one pid other
-                (λ test. (if test then place_by program phase (turned pid)
-                else place_by program (m.phase other) (turned other))
-                ≡ place_by program (if test then phase else m.phase other) (turned other))
-                (λ is. ap (λ (n : ℕ). place_by program phase (turned n)) (sym is))
-                (λ apart. refl);
-            waits = λ other less. by_one pid other
-                (λ test. (if test then waits_by phase (turned pid)
-                else waits_by (m.phase other) (turned other))
-                ≡ waits_by (if test then phase else m.phase other) (turned other))
-                (λ is. ap (λ (n : ℕ). waits_by phase (turned n)) (sym is))
-                (λ apart. refl);
-            notes = λ other less. by_one pid other
-                (λ test. (if test then notes_by phase (turned pid) set
-                else notes_by (m.phase other) (turned other) (m.notes other))
-                ≡ notes_by (if test then phase else m.phase other) (turned other)
-                (if test then set else m.notes other))
-                (λ is. ap (λ (n : ℕ). notes_by phase (turned n) set) (sym is))
-                (λ apart. refl);
-            values = refl;
-            pipes = refl;
-            line = λ what. refl;
-          }
+      reaches_same program _ _ (now_same program pipes pipes m pid phase set turned)
+      (step turned (follows turned (may_before m pid phase turned stays may)))
 
   module _ (place : ℕ) (timing : Timing) (extra : NoteSet)
       (is : m.phase pid ≡ Timed place timing extra) (line : Line)
@@ -411,7 +368,7 @@ module _ (program : Program) (pipes : List Direction) (m : Running)
         reaches : Reaches program (seen program pipes m turned)
         reaches =
             follows turned
-            (may_before (Timed place (Timing.Cancels clock ending.Interrupted held) no_notes)
+            (may_before m pid (Timed place (Timing.Cancels clock ending.Interrupted held) no_notes)
             turned (λ noted. noted) may)
 
         stays : turned pid ≡ false
@@ -539,7 +496,7 @@ module _ (program : Program) (pipes : List Direction) (m : Running)
         (Timed place (Timing.Awaits ends held) (joined (m.notes pid) taken)) no_notes)
     awaits_on ends held taken is turned may =
         reaches_same program (seen program pipes m turned) _ same
-        (follows turned (may_before
+        (follows turned (may_before m pid
         (Timed place (Timing.Awaits ends held) (joined (m.notes pid) taken)) turned
         (λ noted. noted) may))
       where

@@ -46,11 +46,12 @@ use Rattle.explored_calls.proofs.Queued.Amid.{Blocks, ReadsOn}
 use Rattle.explored_calls.proofs.Running.{Follows, Phase}
 use Rattle.explored_calls.proofs.Running.Phase.{Has, Is, Served}
 use Rattle.explored_calls.proofs.RunningPipes as steps
-use Rattle.explored_calls.proofs.RunningPipes.{Reading, turned_to}
+use Rattle.explored_calls.proofs.RunningPipes.{Reading}
 use Rattle.explored_calls.proofs.RunningPipes.Reading.{Begins, Continues}
 use Rattle.explored_calls.proofs.RunningSteps.{GoesTo}
 use Rattle.explored_calls.proofs.ReadParts.{PartRead, by_reply, finds_there, none_less, over_at}
 use Rattle.explored_calls.proofs.ReadParts.{part_got, part_stays, some_less}
+use Rattle.explored_calls.proofs.RunningSteps.{now_so}
 
 module _ (program : Program) (is_program : IsProgram program) (covered : IsCovered program)
     (given : Spot → Given) (objects : Objects) (its : PipeCall program objects) where
@@ -245,7 +246,7 @@ module _ (program : Program) (is_program : IsProgram program) (covered : IsCover
         tried_there : (e : DirectionState) (came : ReadOutcome) (out : TryAnswer)
             → e ≡ d → tried_of came ≡ out
             → ((phase : Phase) → GoesTo program phase (after_ending line (try_ends out))
-            → Follows program pipes (turned_to m pid phase (m.notes pid)))
+            → Follows program pipes (now_so m pid phase (m.notes pid)))
             → Followed (moved_to (with_pipe e)
             (landed (tries_at (came_so (pipe_at objects pipe).row (length buffer) tried_of last
             came))) (v.notes pid))

@@ -68,7 +68,7 @@ use Rattle.explored_calls.proofs.TimedKinds.{IsDone, IsKind, IsUntil, WaitsSo, i
 use Rattle.explored_calls.proofs.TimedViews.{AreKinds, Comes, TimedView, inner_view, own_to, timed}
 use Rattle.explored_calls.proofs.TimerFits.{seat_timer}
 use Rattle.explored_calls.proofs.TimingSteps as steps
-use Rattle.explored_calls.proofs.TimingSteps.{now_so}
+use Rattle.explored_calls.proofs.RunningSteps.{now_so}
 use Rattle.explored_calls.proofs.WaitSteps
 
 -- a call with a deadline that is covered is no sleep

@@ -48,7 +48,8 @@ use Rattle.shown_runs.proofs.Following.{Chooses, Turns, Which, which}
 use Rattle.shown_runs.proofs.Following.Which.{IsAgain, IsChoice, IsEnd, IsFailure, IsFirst, IsStood}
 use Rattle.shown_runs.proofs.Following.Which.{IsTurn}
 use Rattle.shown_runs.proofs.OwnSteps.{chooses, posts_notes, takes_notes}
-use Rattle.shown_runs.proofs.MeetSteps.{meets_partner, turns_from_meeting, waits_for_partner}
+use Rattle.shown_runs.proofs.MeetSteps.{meets_partner}
+use Rattle.shown_runs.proofs.MeetWaits.{turns_from_meeting, waits_for_partner}
 use Rattle.shown_runs.proofs.PipePlayed.{IsOfPipe, fails_so, makes_again, pipe_calls, stands_so}
 use Rattle.shown_runs.proofs.PipePlayed.IsOfPipe.{ToHang, ToRead, ToTry, ToWrite}
 use Rattle.shown_runs.proofs.Plays.{PlaysTo, StepsTo, are_with, one_choice, same_choices}
