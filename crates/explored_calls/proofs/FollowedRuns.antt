@@ -1,11 +1,10 @@
 -- Each position of a run of the library's calls is one to which the explorer comes: that before the
 -- first move is, and so is that after each move.
-use Rattle.std.proofs.Common.{◌≡◌, ◌≢◌, ℕ, zero, suc, ◌+◌, ◌<◌, ◌==◌, Bool}
-use Rattle.std.proofs.Common.{if◌then◌else◌, true}
-use Rattle.std.proofs.Common.{false, Some, None, List, [], ◌∷◌, length}
-use Rattle.std.proofs.Common.{map, refl, sym, ap, ◌∙◌, subst, arith}
+use Rattle.std.proofs.Common.{◌≡◌, ◌≢◌, ℕ, zero, suc, ◌+◌, ◌<◌, ◌==◌, Bool, if◌then◌else◌, true}
+use Rattle.std.proofs.Common.{false, Some, None, List, [], ◌∷◌, length, map, refl, sym, ap, ◌∙◌}
+use Rattle.std.proofs.Common.{subst, arith}
 use Rattle.std.specs.Option.{option_map}
-use Rattle.std.specs.Prelude.{slice_index, slice_index_or, slice_set}
+use Rattle.std.specs.Prelude.{replicate, slice_index, slice_index_or, slice_set}
 use Rattle.std.proofs.lemmas.Bool.Decides.{nat_tests}
 use Rattle.std.proofs.lemmas.List.{get_or-map, get_or-replicate, get_or-set_other, get_or-set_same}
 use Rattle.std.proofs.lemmas.List.{length-map, length-replicate, length-set}
@@ -17,49 +16,38 @@ use Rattle.semaphore.specs.Units.{SemaState}
 use Rattle.sleep_core.proofs.CoreRuns.{get_or-replicate_same}
 use Rattle.tag_space.specs.declared.place.Place.{Place}
 use Rattle.tag_space.specs.GroupObject.{fresh_place, waits_with}
-use Rattle.std.specs.Prelude.{replicate}
 use Rattle.calls.specs.Position.{starting}
 use Rattle.calls.specs.Pipes.{Direction, empty_direction}
 use Rattle.calls.specs.Program.{IsProgram, Program, is_stream, is_stream_at, procs_of}
-use Rattle.call_machines.specs.Grain.{Coarse, Move, at_of, coarse_of, moved, notes_of}
-use Rattle.call_machines.specs.Grain.{receiver}
+use Rattle.call_machines.specs.Grain.{Coarse, Move, at_of, coarse_of, moved, notes_of, receiver}
 use Rattle.call_machines.specs.StrictRuns.{AreLooseMoves, MayLoosely}
 use Rattle.call_machines.specs.GrainEnds.{AreUnrefused, IsUnrefused}
 use Rattle.call_machines.specs.Programs as machines
 use Rattle.call_machines.specs.Programs.{ProgramState}
 use Rattle.call_machines.specs.Programs.ProgramState.{Ended}
-use Rattle.call_machines.specs.Replies.{AreHeardSo}
+use Rattle.call_machines.specs.Replies.{AreHeardSo, IsHeardSo}
 use Rattle.call_machines.specs.Runs.{procs}
 use Rattle.pipe_machines.specs.PipeRuns.{DirectionState}
-use Rattle.object_machines.specs.ObjectCalls.{ObjectCall, ObjectReply, ObjectRequest}
-use Rattle.object_machines.specs.ObjectCalls.{Objects, object_calls, opening_sema}
-use Rattle.object_machines.specs.ObjectCalls.{opening_pipe, pipe_at, sema_of}
+use Rattle.object_machines.specs.ObjectCalls.{ObjectCall, ObjectReply, ObjectRequest, Objects}
+use Rattle.object_machines.specs.ObjectCalls.{object_calls, opening_pipe, opening_sema, pipe_at}
+use Rattle.object_machines.specs.ObjectCalls.{sema_of}
 use Rattle.object_machines.specs.ObjectCalls.ObjectCall.{InSpace}
 use Rattle.timer_list.specs.declared.timer_object.Timer.TheVariants.{Unset}
 use Rattle.timer_list.specs.Timers.{timer_of}
-use Rattle.call_machines.specs.Replies.{IsHeardSo}
 use Rattle.timer_machines.specs.Requests.{TimedReply, TimedRequest}
 use Rattle.timed_machines.specs.TimedCalls.{timed_calls}
-use Rattle.timed_machines.specs.TimedObjects.{LeavesTimedUnworn}
-use Rattle.timed_machines.specs.TimedObjects.{TimedObjectCall}
-use Rattle.explored_calls.specs.TimedLibrary.{timed_library_of}
-use Rattle.explored_calls.specs.TimedLibrary.{timed_program}
+use Rattle.timed_machines.specs.TimedObjects.{LeavesTimedUnworn, TimedObjectCall}
+use Rattle.explored_calls.specs.TimedLibrary.{timed_library_of, timed_program}
 use Rattle.explored_calls.proofs.CallsLand.{lands_at}
 use Rattle.explored_calls.proofs.TickMoves.{comes}
-use Rattle.explored_calls.proofs.TimedKinds.{IsKind}
-use Rattle.explored_calls.proofs.TimedKinds.{inner, inner_arrived}
-use Rattle.explored_calls.proofs.TimedKinds.{timed_arrived}
+use Rattle.explored_calls.proofs.TimedKinds.{IsKind, inner, inner_arrived, timed_arrived}
 use Rattle.explored_calls.proofs.TimedViews.{AreKinds, TimedView, inner_view}
-use Rattle.explored_calls.specs.LibraryCalls.{AreItsObjects, Given}
-use Rattle.explored_calls.specs.LibraryCalls.{IsCovered, Spot}
-use Rattle.explored_calls.specs.LibraryCalls.{starts_from}
+use Rattle.explored_calls.specs.LibraryCalls.{AreItsObjects, Given, IsCovered, Spot, starts_from}
 use Rattle.explored_calls.proofs.Arrivals.{arrives}
-use Rattle.explored_calls.proofs.Fits.{Fits, IsPhase, View}
-use Rattle.explored_calls.proofs.Fits.{granted_in, line_of, waits_at, waits_in_space}
+use Rattle.explored_calls.proofs.Fits.{Fits, IsPhase, View, granted_in, line_of, waits_at}
+use Rattle.explored_calls.proofs.Fits.{waits_in_space}
 use Rattle.explored_calls.proofs.Lists.{at_one}
-use Rattle.explored_calls.proofs.PipePhases.{IsAwake, IsQuiet, PipeFits, PipesFit}
-use Rattle.explored_calls.proofs.PipePhases.{pipe_in}
-use Rattle.explored_calls.proofs.PipePhases.{put_in}
+use Rattle.explored_calls.proofs.PipePhases.{IsAwake, IsQuiet, PipeFits, PipesFit, pipe_in, put_in}
 use Rattle.explored_calls.proofs.Running.{Follows, Phase, Running}
 use Rattle.explored_calls.proofs.Running.Phase.{Is}
 use Rattle.explored_calls.proofs.SpaceFacts.{none_wait, position_none}

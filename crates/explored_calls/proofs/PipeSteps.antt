@@ -54,7 +54,6 @@ use Rattle.explored_calls.proofs.PipeMoves.{IsFollowedBy, PipeCall}
 use Rattle.explored_calls.proofs.PipePhases.{HangPhase, IsAwake, IsQuiet, PipesFit, PutPhase}
 use Rattle.explored_calls.proofs.PipePhases.{ReadPhase, TryPhase, pipes_stay, put_in}
 use Rattle.explored_calls.proofs.ReadMoves as reads
-use Rattle.explored_calls.proofs.TryReadMoves as try_reads
 use Rattle.explored_calls.proofs.Running.{Follows, Running}
 
 -- ---- a call elsewhere stays elsewhere
@@ -473,7 +472,7 @@ module _ (program : Program) (is_program : IsProgram program) (covered : IsCover
           (only_asks (library_of program given objects) v.object (v.notes pid)
           (does_at (TriesToRead buffer (FillState.Filling count last))) grain
           (OfPipe pipe (NextPart count (length buffer - count))) refl can fine) fresh
-          (λ heard. try_reads.tries_so program is_program covered given objects
+          (λ heard. reads.tries_so program is_program covered given objects
           (call_of (TriesToRead buffer (FillState.Filling count last)) is (ap pipe_of made))
           (modes pipe there) buffer made count last refl phase)
       tries_buffer buffer made (FillState.WakingWriters woken number out) is phase grain can fine
@@ -488,7 +487,7 @@ module _ (program : Program) (is_program : IsProgram program) (covered : IsCover
               (only_wakes (library_of program given objects) v.object (v.notes pid) (does_at at)
               grain (writer_rendez (pipe_at objects pipe).row woken) number (rw one_more refl) can
               fine) fresh
-              (λ heard. try_reads.try_wakes program is_program covered given objects
+              (λ heard. reads.try_wakes program is_program covered given objects
               (call_of at is (ap pipe_of made)) (modes pipe there) buffer made woken number out
               refl phase)
           by_more false none =

@@ -1,8 +1,8 @@
--- The moves of a read that waits, at a direction of a pipe of messages or as a stream, are followed
--- by the explorer. It has a step for each part that the read asks for.
-use Rattle.std.proofs.Common.{◌≡◌, inl, inr, ℕ, suc, ◌+◌, ◌-◌, ◌<◌, Bool}
-use Rattle.std.proofs.Common.{if◌then◌else◌, true, false, Option, Some, None, List, length}
-use Rattle.std.proofs.Common.{nat_lt, refl, sym, ap, ◌∙◌, subst, arith, Ok, Err}
+-- The moves of a read at a direction of a pipe, of messages or as a stream, are followed by the
+-- explorer. It has a step for each part that the read asks for.
+use Rattle.std.proofs.Common.{Bool, Err, List, None, Ok, Option, Some, ℕ, ◌+◌, ◌-◌, ◌<◌, ◌∙◌, ◌≡◌}
+use Rattle.std.proofs.Common.{ap, arith, false, if◌then◌else◌, inl, inr, length, nat_lt, refl}
+use Rattle.std.proofs.Common.{subst, suc, sym, true}
 use Rattle.std.specs.Prelude.{slice_get}
 use Rattle.std.proofs.lemmas.Bool.Decides.{nat_tests}
 use Rattle.sync_base.specs.declared.fault.Fault.TheVariants as fault
@@ -25,20 +25,18 @@ use Rattle.calls.specs.Program.{IsProgram, Program, is_stream, is_stream_at}
 use Rattle.call_machines.specs.Machine.{Outcome}
 use Rattle.call_machines.specs.Programs.{ProgramState}
 use Rattle.call_machines.specs.Programs.ProgramState.{In}
-use Rattle.pipe_machines.specs.PipeRuns.{CallState, DirectionState}
-use Rattle.pipe_machines.specs.PipeRuns.{call_goes_on, part_after}
+use Rattle.pipe_machines.specs.PipeRuns.{CallState, DirectionState, call_goes_on, part_after}
 use Rattle.pipe_machines.specs.PipeRuns.{part_told}
-use Rattle.pipe_machines.specs.PipeRuns.CallState.{Reads}
+use Rattle.pipe_machines.specs.PipeRuns.CallState.{Reads, TriesToRead}
 use Rattle.pipe_dev.specs.declared.filling.ReadOutcome.{ReadOutcome}
 use Rattle.pipe_dev.specs.declared.filling.Stop.TheVariants as stop
 use Rattle.pipe_dev.specs.ReadCalls.{came_to}
 use Rattle.pipe_dev.specs.ReadSteps.{found_of}
-use Rattle.pipe_machines.specs.PipeRuns.CallOut.{HasRead}
-use Rattle.pipe_machines.specs.ReadMachine.{FillState, came_so}
+use Rattle.pipe_machines.specs.PipeRuns.CallOut.{HasRead, HasTried}
+use Rattle.pipe_machines.specs.ReadMachine.{FillState, came_so, tried_of}
 use Rattle.pipe_machines.specs.Requests.{PipeReply}
 use Rattle.pipe_machines.specs.Tries.{TryState}
-use Rattle.object_machines.specs.ObjectCalls.{ObjectCall, ObjectStates, Objects}
-use Rattle.object_machines.specs.ObjectCalls.{pipe_at}
+use Rattle.object_machines.specs.ObjectCalls.{ObjectCall, ObjectStates, Objects, pipe_at}
 use Rattle.object_machines.specs.ObjectCalls.ObjectCall.{AtPipe}
 use Rattle.object_machines.specs.ObjectCalls.ObjectOut.{FromPipe}
 use Rattle.explored_calls.specs.LibraryCalls.{Given, IsCovered, Spot, ended_as, place_after}
@@ -47,19 +45,19 @@ use Rattle.explored_calls.proofs.ExplorerSteps.{no, yes}
 use Rattle.explored_calls.proofs.Fits.{IsAtPipe, IsPhase, View, granted_in}
 use Rattle.explored_calls.proofs.PipeMoves as moves
 use Rattle.explored_calls.proofs.PipeMoves.{PipeCall}
-use Rattle.explored_calls.proofs.PipePhases.{FillPhase, IsAwake, MayBegin, PipeFits}
-use Rattle.explored_calls.proofs.PipePhases.{ReadPhase, put_by}
+use Rattle.explored_calls.proofs.PipePhases.{FillPhase, IsAwake, MayBegin, PipeFits, ReadPhase}
+use Rattle.explored_calls.proofs.PipePhases.{TryPhase, put_by}
 use Rattle.explored_calls.proofs.Queued.Amid.{Blocks, ReadsOn}
 use Rattle.explored_calls.proofs.Running.{Follows, Phase}
 use Rattle.explored_calls.proofs.Running.Phase.{Has, Is, Served}
 use Rattle.explored_calls.proofs.RunningPipes as steps
 use Rattle.explored_calls.proofs.RunningPipes.{Reading}
 use Rattle.explored_calls.proofs.RunningPipes.Reading.{Begins, Continues, Retries}
-use Rattle.explored_calls.proofs.RunningSteps.{GoesTo, goes_is}
+use Rattle.explored_calls.proofs.RunningSteps.{GoesTo, goes_is, now_so}
 use Rattle.explored_calls.proofs.ReadParts.{PartRead, by_reply, came_is, finds_there, none_less}
-use Rattle.explored_calls.proofs.ReadParts.{over_at}
-use Rattle.explored_calls.proofs.ReadParts.{part_got, part_stays, some_less, stays_read}
-use Rattle.explored_calls.proofs.RunningSteps.{now_so}
+use Rattle.explored_calls.proofs.ReadParts.{over_at, part_got, part_stays, some_less, stays_read}
+use Rattle.pipe_dev.specs.declared.answers.TryAnswer.{TryAnswer}
+use Rattle.pipe_dev.specs.declared.answers.TryAnswer.TheVariants as try
 
 module _ (program : Program) (is_program : IsProgram program) (covered : IsCovered program)
     (given : Spot → Given) (objects : Objects) (its : PipeCall program objects) where
@@ -117,6 +115,8 @@ module _ (program : Program) (is_program : IsProgram program) (covered : IsCover
   Lands at ends = moves.Lands program is_program covered given objects its at ends
 
   module _ (modes : is_stream (pipe_at objects pipe).row.mode ≡ is_stream_at program pipe) where
+    -- ---- a read that waits
+
     module _ (buffer : List ℕ) (made : line.call ≡ call.Read pipe (length buffer) None) where
       abbrev reads_at : FillState (WaitReply ReadAnswer) → CallState
       reads_at at = Reads buffer (TryState.Tries at)
@@ -492,3 +492,222 @@ module _ (program : Program) (is_program : IsProgram program) (covered : IsCover
         reads_so =
             by_reply program is_program covered given objects its room (Read_so count last room)
             was_got was_not was_end
+
+    -- ---- a read that does not wait
+
+    module _ (buffer : List ℕ) (made : line.call ≡ call.TryRead pipe (length buffer)) where
+      abbrev tries_at : FillState TryAnswer → CallState
+      tries_at at = TriesToRead buffer at
+
+      try_line : IsAtPipe program spot.place pipe (call.TryRead pipe (length buffer)) line
+      try_line = record { line_is = line_is; call_is = made; low = there }
+
+      -- its phase, amid such a read
+      try_phase : (object : ObjectStates) (at : FillState TryAnswer) (phase : Phase)
+          → TryPhase spot.place line (length buffer) at phase
+          → IsPhase program (granted_in program objects object pid) pid
+          (In spot (AtPipe pipe (tries_at at))) phase
+      try_phase object at phase is =
+          (by, record { line = line; is_at = try_line; phase_is = is })
+
+      -- how it ends
+      abbrev try_ends : TryAnswer → Ending
+      try_ends out = ended_as (Ok (FromPipe (HasTried out)))
+
+      try_leads : (woken number : ℕ) (out : TryAnswer) (test : Bool) → more woken ≡ test
+          → landed (tries_at (FillState.WakingWriters woken number out))
+          ≡ (if test then In spot (AtPipe pipe (tries_at
+          (FillState.WakingWriters woken number out)))
+          else arrived program is_program covered given objects spot.by
+          (place_after (try_ends out) (slice_get program.lines spot.place) spot.place))
+      try_leads woken number out true is = rw is refl
+      try_leads woken number out false is = rw is refl
+
+      try_awake : (woken number : ℕ) (out : TryAnswer) → more woken ≡ true
+          → IsAwake objects (In spot (AtPipe pipe (tries_at
+          (FillState.WakingWriters woken number out))))
+      try_awake woken number out is = rw is (λ over. over)
+
+      -- and so it lands
+      try_lands : (woken number : ℕ) (out : TryAnswer)
+          → Lands (tries_at (FillState.WakingWriters woken number out)) (try_ends out)
+      try_lands woken number out =
+          record {
+            test = more woken;
+            landed_is = try_leads woken number out (more woken) refl;
+            awake = try_awake woken number out;
+            none = refl;
+            served = λ more object. try_phase object (FillState.WakingWriters woken number out)
+                (Served (after_ending line (try_ends out)) no_notes) refl;
+          }
+
+      -- one that is over goes on, or wakes the writers first
+      tried_lands : (last : Option ℕ) (out : TryAnswer)
+          → Lands (tries_at (over_at last out)) (try_ends out)
+      tried_lands None out =
+          record {
+            test = false;
+            landed_is = refl;
+            awake = λ no_more. absurd cc;
+            none = refl;
+            served = λ no_more object. absurd cc;
+          }
+      tried_lands (Some number) out = try_lands 0 number out
+
+      -- the position after a part was asked for, by the reply
+      abbrev Tried_so : ℕ → Option ℕ → ℕ → PipeReply → Type 0
+      Tried_so count last room told =
+          Followed (moved_to (with_pipe (part_after d room d.rest))
+          (landed (call_goes_on (pipe_at objects pipe).limit (pipe_at objects pipe).row
+          (tries_at (FillState.Filling count last)) (Outcome.Replied told))) (v.notes pid))
+
+      -- it has woken one more writer
+      pub try_wakes : (woken number : ℕ) (out : TryAnswer)
+          → old ≡ tries_at (FillState.WakingWriters woken number out)
+          → m.phase pid ≡ Served (after_ending line (try_ends out)) no_notes
+          → Followed (moved_to v.object
+          (landed (call_goes_on (pipe_at objects pipe).limit (pipe_at objects pipe).row
+          (tries_at (FillState.WakingWriters woken number out)) Outcome.Went)) (v.notes pid))
+      try_wakes woken number out was served =
+          moves.lands_on program is_program covered given objects its (tries_at
+          (FillState.WakingWriters (suc woken) number out)) (try_ends out)
+          (ap put_by was) served (try_lands (suc woken) number out)
+
+      -- it asks for a part
+      module _ (count : ℕ) (last : Option ℕ)
+          (fills : old ≡ tries_at (FillState.Filling count last))
+          (phase_is : FillPhase (m.phase pid ≡ Is spot.place) spot.place (length buffer) count
+          (m.phase pid)) where
+        try_unput : put_by old ≡ None
+        try_unput = ap put_by fills
+
+        -- the room that is left
+        abbrev try_room : ℕ
+        try_room = length buffer - count
+
+        -- as the explorer has it
+        trying : Reading pipe spot.place (length buffer) try_room line.call (m.phase pid)
+        trying = by_phase phase_is
+          where
+            by_phase : FillPhase (m.phase pid ≡ Is spot.place) spot.place (length buffer) count
+                (m.phase pid)
+                → Reading pipe spot.place (length buffer) try_room line.call (m.phase pid)
+            by_phase (inl first) = let none = first.0 in Begins first.1 (omega (arith, none))
+            by_phase (inr goes) = Continues goes.1
+
+        -- it never waits
+        try_fresh : m.phase pid ≡ Has spot.place Blocks → ⊥
+        try_fresh blocks = by_phase phase_is
+          where
+            by_phase : FillPhase (m.phase pid ≡ Is spot.place) spot.place (length buffer) count
+                (m.phase pid) → ⊥
+            by_phase (inl first) =
+                let apart : Is spot.place ≡ Has spot.place Blocks = sym first.1 ∙ blocks in cc
+            by_phase (inr goes) =
+                let apart : Has spot.place (ReadsOn try_room) ≡ Has spot.place Blocks =
+                sym goes.1 ∙ blocks in cc
+
+        -- one that has read some has room
+        try_less : nat_lt 0 count ≡ true → count < length buffer
+        try_less some = by_phase phase_is
+          where
+            by_phase : FillPhase (m.phase pid ≡ Is spot.place) spot.place (length buffer) count
+                (m.phase pid) → count < length buffer
+            by_phase (inl first) = absurd (let none = first.0 in
+                let low : 0 < count = grind (arith, nat_tests) in omega (arith, none, low))
+            by_phase (inr goes) = goes.0
+
+        -- as one that reads by parts
+        part_tried : PartRead program is_program covered given objects its (length buffer) tries_at
+        part_tried =
+            record {
+              made = inr made;
+              puts = λ count last. refl;
+              asks = λ count last. refl;
+              awake = λ count last over. over;
+              goes = λ object count last less. try_phase object (FillState.Filling count last)
+                  (Has spot.place (ReadsOn (length buffer - count))) (inr (less, refl));
+            }
+
+        -- where the direction stays, and the try came to an answer, it is over
+        tried_there : (e : DirectionState) (came : ReadOutcome) (out : TryAnswer)
+            → e ≡ d → tried_of came ≡ out
+            → ((phase : Phase) → GoesTo program phase (after_ending line (try_ends out))
+            → Follows program pipes (now_so m pid phase (m.notes pid)))
+            → Followed (moved_to (with_pipe e)
+            (landed (tries_at (came_so (pipe_at objects pipe).row (length buffer) tried_of last
+            came))) (v.notes pid))
+        tried_there e came out same is followed =
+            part_stays program is_program covered given objects its (length buffer) tries_at
+            part_tried tried_of count try_unput trying e came out (try_ends out) last same is
+            followed (tried_lands last out)
+
+        -- it takes a part
+        try_got : (part_read : ℕ) (number : Option ℕ)
+            → part_told d try_room d.rest ≡ PipeReply.Got part_read number
+            → Tried_so count last try_room (PipeReply.Got part_read number)
+        try_got part_read number told =
+            part_got program is_program covered given objects its (length buffer) tries_at
+            part_tried tried_of count try_unput trying modes part_read number told
+            (tried_lands number (try.Got (count + part_read)))
+
+        -- or nothing is there yet
+        try_not : (n : ℕ) → part_told d try_room d.rest ≡ PipeReply.NotYet n
+            → part_after d try_room d.rest ≡ d
+            → Tried_so count last try_room (PipeReply.NotYet n)
+        try_not n told same = by_some (nat_lt 0 count) refl
+          where
+            by_some : (test : Bool) → nat_lt 0 count ≡ test
+                → Tried_so count last try_room (PipeReply.NotYet n)
+            by_some true some =
+                tried_there (part_after d try_room d.rest) (came_to count (stop.NotYet n))
+                (try.Got count) same
+                (ap (λ (b : Bool). if b then try.Got count else try.NotYet) some)
+                (steps.reads_some program pipes m follows pid low spot.place line line_is pipe x
+                fit.there at_call (length buffer) try_room (inr made) trying try_fresh
+                (finds_there program is_program covered given objects its try_room
+                (PipeReply.NotYet n) told)
+                (some_less (length buffer) count (try_less some) some))
+            by_some false none =
+                tried_there (part_after d try_room d.rest) (came_to count (stop.NotYet n))
+                try.NotYet same
+                (ap (λ (b : Bool). if b then try.Got count else try.NotYet) none)
+                (steps.reads_other program pipes m follows pid low spot.place line line_is pipe x
+                fit.there at_call (length buffer) try_room (inr made) trying try_fresh
+                (finds_there program is_program covered given objects its try_room
+                (PipeReply.NotYet n) told) (none_less (length buffer) count
+                none) made)
+
+        -- or all is read
+        try_end : part_told d try_room d.rest ≡ PipeReply.End
+            → part_after d try_room d.rest ≡ d → Tried_so count last try_room PipeReply.End
+        try_end told same = by_some (nat_lt 0 count) refl
+          where
+            step : (out : TryAnswer) → tried_of (came_to count stop.End) ≡ out
+                → end_found line try_room ≡ try_ends out
+                → Tried_so count last try_room PipeReply.End
+            step out is how =
+                tried_there (part_after d try_room d.rest) (came_to count stop.End) out same is
+                (steps.reads_end program pipes m follows pid low spot.place line line_is pipe x
+                fit.there at_call (length buffer) try_room (inr made) trying (try_ends out) how
+                (finds_there program is_program covered given objects its try_room PipeReply.End
+                told))
+
+            by_some : (test : Bool) → nat_lt 0 count ≡ test
+                → Tried_so count last try_room PipeReply.End
+            by_some true some =
+                step (try.Got count)
+                (ap (λ (b : Bool). if b then try.Got count else try.End) some)
+                (yes _ _ _ (ap (λ (made : Call). nat_lt try_room (room_of made)) made
+                ∙ some_less (length buffer) count (try_less some) some))
+            by_some false none =
+                step try.End
+                (ap (λ (b : Bool). if b then try.Got count else try.End) none)
+                (no _ _ _ (ap (λ (made : Call). nat_lt try_room (room_of made)) made
+                ∙ none_less (length buffer) count none))
+
+        -- so each request for a part is followed
+        pub tries_so : Tried_so count last try_room (part_told d try_room d.rest)
+        tries_so =
+            by_reply program is_program covered given objects its try_room
+            (Tried_so count last try_room) try_got try_not try_end

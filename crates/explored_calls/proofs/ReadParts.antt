@@ -1,8 +1,8 @@
 -- A read at a direction asks for a part, whether it waits or not. It takes one and goes on, or it
 -- is over.
-use Rattle.std.proofs.Common.{◌≡◌, ◌⊎◌, ◌≢◌, ℕ, suc, ◌+◌, ◌-◌, ◌<◌, ◌≤◌, ◌&&◌, Bool}
-use Rattle.std.proofs.Common.{true, false, Option, Some, None, List, length}
-use Rattle.std.proofs.Common.{nat_lt, refl, sym, ap, ◌∙◌, subst, arith, Ok}
+use Rattle.std.proofs.Common.{◌≡◌, ◌⊎◌, ◌≢◌, ℕ, suc, ◌+◌, ◌-◌, ◌<◌, ◌≤◌, ◌&&◌, Bool, true, false}
+use Rattle.std.proofs.Common.{Option, Some, None, List, length, nat_lt, refl, sym, ap, ◌∙◌, subst}
+use Rattle.std.proofs.Common.{arith, Ok}
 use Rattle.std.specs.Prelude.{slice_set}
 use Rattle.std.proofs.lemmas.Bool.Decides.{nat_tests}
 use Rattle.sync_base.specs.declared.mode.Mode.{Mode}
@@ -15,14 +15,11 @@ use Rattle.calls.specs.declared.call.Call.TheVariants as call
 use Rattle.calls.specs.declared.ending.Ending.{Ending}
 use Rattle.calls.specs.declared.ending.Ending.TheVariants as ending
 use Rattle.calls.specs.Lines.{after_ending}
-use Rattle.calls.specs.Pipes.{Direction, finds, opened}
-use Rattle.calls.specs.Pipes.{taken as read_from}
+use Rattle.calls.specs.Pipes.{Direction, finds, opened, taken as read_from}
 use Rattle.calls.specs.Program.{IsProgram, Program, is_stream, is_stream_at}
 use Rattle.call_machines.specs.Programs.{ProgramState}
 use Rattle.call_machines.specs.Programs.ProgramState.{In}
-use Rattle.pipe_machines.specs.PipeRuns.{CallState, DirectionState}
-use Rattle.pipe_machines.specs.PipeRuns.{part_after}
-use Rattle.pipe_machines.specs.PipeRuns.{part_told}
+use Rattle.pipe_machines.specs.PipeRuns.{CallState, DirectionState, part_after, part_told}
 use Rattle.pipe_dev.specs.declared.filling.ReadOutcome.{ReadOutcome}
 use Rattle.pipe_dev.specs.declared.filling.Stop.TheVariants as stop
 use Rattle.pipe_dev.specs.declared.row.Row.{Row}
@@ -31,27 +28,23 @@ use Rattle.pipe_machines.specs.ReadMachine.{FillState, came_so, filled_to}
 use Rattle.pipe_machines.specs.Requests.{PipeReply}
 use Rattle.pipe_machines.proofs.DirectionLemmas.{ReadCase, read_case}
 use Rattle.pipe_machines.proofs.DirectionLemmas.ReadCase.{IsEnd, IsNotYet, OfRest, Takes}
-use Rattle.object_machines.specs.ObjectCalls.{ObjectCall, ObjectStates, Objects}
-use Rattle.object_machines.specs.ObjectCalls.{pipe_at}
+use Rattle.object_machines.specs.ObjectCalls.{ObjectCall, ObjectStates, Objects, pipe_at}
 use Rattle.object_machines.specs.ObjectCalls.ObjectCall.{AtPipe}
 use Rattle.explored_calls.specs.LibraryCalls.{Given, IsCovered, Spot}
 use Rattle.explored_calls.proofs.Arrivals.{and_right}
-use Rattle.explored_calls.proofs.Directions.{ReadsSo, finds_so, found_by}
-use Rattle.explored_calls.proofs.Directions.{reads_so as takes_so}
+use Rattle.explored_calls.proofs.Directions.{ReadsSo, finds_so, found_by, reads_so as takes_so}
 use Rattle.explored_calls.proofs.Fits.{IsPhase, View, granted_in}
 use Rattle.explored_calls.proofs.Lists.{at_one}
 use Rattle.explored_calls.proofs.PipeMoves as moves
 use Rattle.explored_calls.proofs.PipeMoves.{PipeCall}
-use Rattle.explored_calls.proofs.PipePhases.{IsAwake, IsQuiet, PipeFits}
-use Rattle.explored_calls.proofs.PipePhases.{PipesFit, put_by, put_in}
+use Rattle.explored_calls.proofs.PipePhases.{IsAwake, IsQuiet, PipeFits, PipesFit, put_by, put_in}
 use Rattle.explored_calls.proofs.PipesMoved as moved
 use Rattle.explored_calls.proofs.Queued.Amid.{ReadsOn}
 use Rattle.explored_calls.proofs.Running.{Follows, Phase}
 use Rattle.explored_calls.proofs.Running.Phase.{Has}
 use Rattle.explored_calls.proofs.RunningPipes as steps
 use Rattle.explored_calls.proofs.RunningPipes.{Reading}
-use Rattle.explored_calls.proofs.RunningSteps.{GoesTo}
-use Rattle.explored_calls.proofs.RunningSteps.{now_so}
+use Rattle.explored_calls.proofs.RunningSteps.{GoesTo, now_so}
 
 -- in stream mode alone it goes on, if there is room
 on_in : (mode : Mode) (more : Bool) → by_mode mode false more ≡ (is_stream mode && more)

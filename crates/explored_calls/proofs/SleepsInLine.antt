@@ -1,10 +1,9 @@
 -- A process that sleeps, and was granted nothing, stands in the line of its call. One that does
 -- nothing more has ended.
-use Rattle.std.proofs.Common.{◌≡◌, inl, inr, ℕ, ◌+◌, ◌<◌, Bool}
-use Rattle.std.proofs.Common.{if◌then◌else◌, true, Ok, Err}
-use Rattle.std.proofs.Common.{false, Option, Some, List, length}
-use Rattle.std.proofs.Common.{nat_lt, refl, sym, ap, ◌∙◌, subst, arith, set}
-use Rattle.std.specs.Prelude.{slice_get}
+use Rattle.std.proofs.Common.{◌≡◌, inl, inr, ℕ, ◌+◌, ◌<◌, Bool, if◌then◌else◌, true, Ok, Err, false}
+use Rattle.std.proofs.Common.{Option, Some, List, length, nat_lt, refl, sym, ap, ◌∙◌, subst, arith}
+use Rattle.std.proofs.Common.{set}
+use Rattle.std.specs.Prelude.{Err, Ok, ⊤, slice_get}
 use Rattle.std.proofs.lemmas.Bool.Decides.{nat_tests}
 use Rattle.sync_base.specs.declared.ids.RendezId.{RendezId}
 use Rattle.sync_base.specs.NoteSet.{no_notes}
@@ -14,8 +13,7 @@ use Rattle.block_queue.specs.QueueObject.{put_reply}
 use Rattle.pipe_dev.specs.Rendezes.{reader_rendez, writer_rendez}
 use Rattle.waiting.specs.declared.call.Reply.TheVariants as reply
 use Rattle.space_machines.specs.MeetMachine.{MeetState}
-use Rattle.space_machines.specs.MeetMachine.MeetState.{Calls, Woke}
-use Rattle.space_machines.specs.MeetMachine.MeetState.{Waking as WakesPartner}
+use Rattle.space_machines.specs.MeetMachine.MeetState.{Calls, Waking as WakesPartner, Woke}
 use Rattle.calls.specs.declared.line.Line.{Line}
 use Rattle.calls.specs.declared.process.Want.{Want}
 use Rattle.calls.specs.declared.process.Want.TheVariants as want
@@ -30,12 +28,12 @@ use Rattle.call_machines.specs.Programs.ProgramState.{Ended, In}
 use Rattle.call_machines.specs.WaitTables.WaitState.{Asking, Begun, Leaving, Over, Returning, Waits}
 use Rattle.pipe_machines.specs.HangMachine.{HangState}
 use Rattle.pipe_machines.specs.PipeEnds.{is_not_full, is_there}
-use Rattle.pipe_machines.specs.PipeRuns.{CallOut as PipeOut, CallState as PipeState}
-use Rattle.pipe_machines.specs.PipeRuns.{DirectionState, call_does as pipe_does, part_after}
-use Rattle.pipe_machines.specs.PipeRuns.{part_told, same as same_request, told_put}
+use Rattle.pipe_machines.specs.PipeRuns.{CallOut as PipeOut, CallState as PipeState, DirectionState}
+use Rattle.pipe_machines.specs.PipeRuns.{call_does as pipe_does, part_after, part_told}
+use Rattle.pipe_machines.specs.PipeRuns.{same as same_request, told_put}
 use Rattle.pipe_machines.specs.PipeRuns.CallOut.{HasRead, HungUp}
-use Rattle.pipe_machines.specs.PipeRuns.CallState.{Blocks as ReadsBlocks, Hangs, Reads}
-use Rattle.pipe_machines.specs.PipeRuns.CallState.{TriesToRead, Writes}
+use Rattle.pipe_machines.specs.PipeRuns.CallState.{Blocks as ReadsBlocks, Hangs, Reads, TriesToRead}
+use Rattle.pipe_machines.specs.PipeRuns.CallState.{Writes}
 use Rattle.pipe_machines.specs.ReadMachine.{FillState}
 use Rattle.pipe_machines.specs.Requests.{PipeRequest}
 use Rattle.pipe_machines.specs.Tries.{does_so}
@@ -46,13 +44,12 @@ use Rattle.pipe_machines.proofs.DirectionLemmas.PutCase.{IsFull, IsHungup, IsTak
 use Rattle.pipe_machines.proofs.DirectionLemmas.ReadCase.{IsEnd, IsNotYet, OfRest}
 use Rattle.pipe_machines.proofs.DirectionLemmas.ReadCase.{Takes as TakesOut}
 use Rattle.pipe_machines.proofs.SleepLemmas.{tries_awake}
-use Rattle.sema_machines.specs.CallMachines.ReleaseState.{Naming, Releasing, Waking}
-use Rattle.sema_machines.specs.CallMachines.ReleaseState.{Released as WasReleased}
+use Rattle.sema_machines.specs.CallMachines.ReleaseState.{Naming, Released as WasReleased}
+use Rattle.sema_machines.specs.CallMachines.ReleaseState.{Releasing, Waking}
 use Rattle.sema_machines.specs.CallMachines.TryState.{Tried, Trying}
 use Rattle.sema_machines.specs.SemaRuns.CallState.{Gives, Takes, Tries}
-use Rattle.object_machines.specs.ObjectCalls.{ObjectCall, ObjectRequest}
-use Rattle.object_machines.specs.ObjectCalls.{ObjectStates, Objects, object_calls}
-use Rattle.object_machines.specs.ObjectCalls.{pipe_at}
+use Rattle.object_machines.specs.ObjectCalls.{ObjectCall, ObjectRequest, ObjectStates, Objects}
+use Rattle.object_machines.specs.ObjectCalls.{object_calls, pipe_at}
 use Rattle.object_machines.specs.ObjectCalls.ObjectOut.{FromPipe}
 use Rattle.object_machines.specs.ObjectCalls.ObjectRequest.{OfPipe}
 use Rattle.object_machines.specs.ObjectCalls.ObjectCall.{Alone, AtPipe, AtSema, Chooses, InSpace}
@@ -60,34 +57,24 @@ use Rattle.object_machines.specs.ObjectEnds.{GoesOn}
 use Rattle.object_machines.specs.OwnCalls.ChoiceState.{Choosing, HasChosen}
 use Rattle.object_machines.specs.OwnCalls.OwnState.{Done, Draining, Posting}
 use Rattle.sync_base.specs.declared.fault.Fault.{Fault}
-use Rattle.std.specs.Prelude.{⊤, Ok, Err}
 use Rattle.explored_calls.proofs.LibrarySteps.{IsUntimed, has_deadline, no_deadline}
 use Rattle.explored_calls.proofs.LibrarySteps.{no_deadline_met}
-use Rattle.explored_calls.proofs.TimedKinds.{IsUntil}
-use Rattle.explored_calls.proofs.TimedKinds.{WaitsSo}
+use Rattle.explored_calls.proofs.TimedKinds.{IsUntil, WaitsSo}
 use Rattle.explored_calls.proofs.UntilFacts.{set_phase}
 use Rattle.calls.specs.Calls.{deadline_of}
 use Rattle.calls.specs.Lines.{is_used}
-use Rattle.timer_machines.specs.TimedMachines.{Deadline}
-use Rattle.timer_machines.specs.TimedMachines.{waits_with as slept_with}
+use Rattle.timer_machines.specs.TimedMachines.{Deadline, waits_with as slept_with}
 use Rattle.timer_machines.specs.TimedMachines.TimedState.{Waits as WaitsFor}
 use Rattle.explored_calls.proofs.Queued.{Timing}
-use Rattle.explored_calls.proofs.Running.{timer_in}
-use Rattle.explored_calls.proofs.Running.Phase.{Timed}
-use Rattle.explored_calls.proofs.Fits.{MeetsAs, WaitsAs, HasClock, TimedPhase}
-use Rattle.explored_calls.specs.LibraryCalls.{Given}
-use Rattle.explored_calls.specs.LibraryCalls.{Spot}
-use Rattle.explored_calls.specs.LibraryCalls.{is_at_head, is_served_in}
-use Rattle.explored_calls.specs.LibraryCalls.{library_of, library_program}
+use Rattle.explored_calls.proofs.Running.{Phase, timer_in}
+use Rattle.explored_calls.proofs.Running.Phase.{InLine, Served, Timed}
+use Rattle.explored_calls.proofs.Fits.{EndedAt, HasClock, IsPhase, MeetPhase, MeetsAs, TimedPhase}
+use Rattle.explored_calls.proofs.Fits.{WaitsAs, granted_in}
+use Rattle.explored_calls.specs.LibraryCalls.{Given, Spot, is_at_head, is_served_in, library_of}
+use Rattle.explored_calls.specs.LibraryCalls.{library_program}
 use Rattle.explored_calls.proofs.Directions.{finds_so, found_by, shown, writes_many}
-use Rattle.explored_calls.proofs.Fits.{EndedAt, IsPhase, MeetPhase}
-use Rattle.explored_calls.proofs.Fits.{granted_in}
-use Rattle.explored_calls.proofs.PipePhases.{IsAwake, PipeFits, PipesFit}
-use Rattle.explored_calls.proofs.PipePhases.{pipe_in}
-use Rattle.explored_calls.proofs.Running.{Phase}
-use Rattle.explored_calls.proofs.Running.Phase.{InLine, Served}
+use Rattle.explored_calls.proofs.PipePhases.{IsAwake, PipeFits, PipesFit, pipe_in}
 use Rattle.explored_calls.proofs.StuckLemmas.{HowItWaits}
-use Rattle.calls.specs.declared.process.Want.{Want}
 
 module _ (program : Program) (given : Spot → Given) (objects : Objects) where
   -- a process that has ended, or waits without a unit

@@ -1,40 +1,30 @@
 -- Where the processes begin and which spots they come to: each is a spot of its process, whose call
 -- begins there. So the library's calls are programs of these processes.
-use Rattle.std.proofs.Common.{◌≡◌, ◌≢◌, ◌⊎◌, inl, inr, ℕ, zero, suc, ◌+◌, ◌<◌}
-use Rattle.std.proofs.Common.{not, true, Ok, Err}
-use Rattle.std.proofs.Common.{Option, Some, None, List, [], ◌∷◌, length}
-use Rattle.std.proofs.Common.{nat_lt, refl, sym, ap, ◌∙◌, subst, arith}
-use Rattle.std.specs.Prelude.{slice_get, slice_index, slice_index_or}
+use Rattle.std.proofs.Common.{◌≡◌, ◌≢◌, ◌⊎◌, inl, inr, ℕ, zero, suc, ◌+◌, ◌<◌, not, true, Ok, Err}
+use Rattle.std.proofs.Common.{Option, Some, None, List, [], ◌∷◌, length, nat_lt, refl, sym, ap, ◌∙◌}
+use Rattle.std.proofs.Common.{subst, arith}
+use Rattle.std.specs.Prelude.{Err, Ok, Result, replicate, slice_get, slice_index, slice_index_or}
 use Rattle.std.proofs.lemmas.Bool.Decides.{nat_tests}
 use Rattle.std.proofs.lemmas.List.{length-replicate}
 use Rattle.sync_base.specs.declared.limits.TheConstants.{ATOMIC_SIZE}
 use Rattle.calls.specs.declared.call.Call.{Call}
 use Rattle.calls.specs.declared.call.Call.TheVariants as call
-use Rattle.std.specs.Prelude.{replicate}
 use Rattle.calls.specs.declared.line.Line.{Line}
 use Rattle.calls.specs.Calls.{can_call}
-use Rattle.calls.specs.Program.{IsProgram, Program}
-use Rattle.calls.specs.Program.{sizes_of}
+use Rattle.calls.specs.Program.{IsProgram, Program, sizes_of}
 use Rattle.call_machines.specs.Programs.{ComesTo}
-use Rattle.object_machines.specs.ObjectCalls.{Objects, object_calls}
-use Rattle.object_machines.specs.ObjectCalls.{ObjectOut}
-use Rattle.object_machines.specs.ObjectEnds.{BeginsBy}
-use Rattle.object_machines.specs.ObjectEnds.{WaitsIn}
+use Rattle.object_machines.specs.ObjectCalls.{ObjectOut, Objects, object_calls}
+use Rattle.object_machines.specs.ObjectEnds.{BeginsBy, WaitsIn, sema_row, space_row}
 use Rattle.timed_machines.specs.TimedCalls.TimedOut.{FromCall, FromTick}
 use Rattle.timed_machines.specs.TimedEnds.{BeginsTimed}
-use Rattle.timed_machines.specs.TimedObjects.{AreTimedPrograms}
-use Rattle.timed_machines.specs.TimedObjects.{TimedObjectOut}
+use Rattle.timed_machines.specs.TimedObjects.{AreTimedPrograms, TimedObjectOut}
 use Rattle.sync_base.specs.declared.fault.Fault.{Fault}
-use Rattle.std.specs.Prelude.{Result, Ok, Err}
-use Rattle.explored_calls.specs.TimedLibrary.{timed_by, timed_in}
-use Rattle.explored_calls.specs.TimedLibrary.{timed_next, timed_program}
+use Rattle.explored_calls.specs.TimedLibrary.{timed_by, timed_in, timed_next, timed_program}
 use Rattle.explored_calls.proofs.TickMoves.{comes}
-use Rattle.object_machines.specs.ObjectEnds.{sema_row, space_row}
 use Rattle.object_machines.specs.ObjectCalls.ObjectOut.{FromChoice}
 use Rattle.explored_calls.specs.LibraryCalls.{AreItsObjects, Given, HasEnd, HasEndIn, HaveEnds}
-use Rattle.explored_calls.specs.LibraryCalls.{IsCovered, IsCoveredCall, Spot}
-use Rattle.explored_calls.specs.LibraryCalls.{library_program, spot_at, spot_in}
-use Rattle.explored_calls.specs.LibraryCalls.{starts_from}
+use Rattle.explored_calls.specs.LibraryCalls.{IsCovered, IsCoveredCall, Spot, library_program}
+use Rattle.explored_calls.specs.LibraryCalls.{spot_at, spot_in, starts_from}
 use Rattle.explored_calls.proofs.Arrivals.{and_left, and_right, line_can}
 
 -- as many processes begin as there are places to begin at

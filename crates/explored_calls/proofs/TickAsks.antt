@@ -1,9 +1,8 @@
 -- A tick that asks for a timer that is due: the explorer follows it, whether it finds none or takes
 -- one. A tick that leads to where it was has found none.
-use Rattle.std.proofs.Common.{◌≡◌, ◌≢◌, ◌⊎◌, inl, inr, ℕ, ◌+◌, ◌-◌, ◌<◌, Bool}
-use Rattle.std.proofs.Common.{if◌then◌else◌, true, false, Some, None, List, nat_lt}
-use Rattle.std.proofs.Common.{refl, sym, ap, ◌∙◌, subst, arith}
-use Rattle.std.specs.Prelude.{slice_set}
+use Rattle.std.proofs.Common.{◌≡◌, ◌≢◌, ◌⊎◌, inl, inr, ℕ, ◌+◌, ◌-◌, ◌<◌, Bool, if◌then◌else◌, true}
+use Rattle.std.proofs.Common.{false, Some, None, List, nat_lt, refl, sym, ap, ◌∙◌, subst, arith}
+use Rattle.std.specs.Prelude.{is_none, slice_set}
 use Rattle.std.proofs.lemmas.Bool.Decides.{nat_tests}
 use Rattle.sync_base.specs.declared.ids.Pid.{Pid}
 use Rattle.sync_base.specs.NoteSet.{no_notes}
@@ -13,8 +12,7 @@ use Rattle.timer_list.specs.declared.timer_object.Timer.TheVariants as seat
 use Rattle.timer_list.specs.declared.timer_object.TimerCall.TheVariants.{Expire}
 use Rattle.timer_list.specs.declared.timer_object.TimerReply.{TimerReply}
 use Rattle.timer_list.specs.declared.timer_object.TimerReply.TheVariants as told
-use Rattle.timer_list.specs.Timers.{after, answer_to, timer_of}
-use Rattle.timer_list.specs.Timers.{first_due as seat_due}
+use Rattle.timer_list.specs.Timers.{after, answer_to, first_due as seat_due, timer_of}
 use Rattle.calls.specs.declared.call.Call.{Call}
 use Rattle.calls.specs.declared.call.Call.TheVariants as call
 use Rattle.calls.specs.declared.process.Timer.{Timer}
@@ -23,7 +21,6 @@ use Rattle.calls.specs.Lines.{is_used}
 use Rattle.calls.specs.Program.{IsProgram, Program, procs_of}
 use Rattle.calls.specs.Position.{Position, begun, expires}
 use Rattle.calls.specs.Timers.{first_due, is_early, now_of}
-use Rattle.std.specs.Prelude.{is_none}
 use Rattle.call_machines.specs.Grain.{Grain, outcome_by}
 use Rattle.call_machines.specs.Grain.Grain.{Heard}
 use Rattle.call_machines.specs.Machine.{Outcome}
@@ -35,8 +32,8 @@ use Rattle.timer_machines.specs.Requests.TimedReply.{FromTimers}
 use Rattle.timer_machines.specs.Requests.TimedRequest.{ToTimers}
 use Rattle.timer_machines.specs.TickMachine.{TickState, asks_on}
 use Rattle.timer_machines.specs.TickMachine.TickState.{Asking as Asks, Telling}
-use Rattle.object_machines.specs.ObjectCalls.{ObjectCall, ObjectReply, ObjectRequest}
-use Rattle.object_machines.specs.ObjectCalls.{Objects, object_calls}
+use Rattle.object_machines.specs.ObjectCalls.{ObjectCall, ObjectReply, ObjectRequest, Objects}
+use Rattle.object_machines.specs.ObjectCalls.{object_calls}
 use Rattle.object_machines.specs.ObjectCalls.ObjectCall.{Chooses}
 use Rattle.object_machines.specs.OwnCalls.ChoiceState.{HasChosen}
 use Rattle.timed_machines.specs.TimedCalls.TimedCall.{Tick}
@@ -45,7 +42,7 @@ use Rattle.explored_calls.specs.LibraryCalls.{Given, IsCovered, Spot}
 use Rattle.explored_calls.proofs.Arrivals.{at_else, at_self}
 use Rattle.explored_calls.proofs.CallsLand.{Lands, lands_at}
 use Rattle.explored_calls.proofs.Fits.{Fits, IsPhase, granted_in}
-use Rattle.explored_calls.proofs.Lists.{at_one}
+use Rattle.explored_calls.proofs.Lists.{at_one, by_number}
 use Rattle.explored_calls.proofs.PhaseTimers.{TimerCase, timer_case}
 use Rattle.explored_calls.proofs.PhaseTimers.TimerCase.{IsUnset, MayRunOut}
 use Rattle.explored_calls.proofs.PipePhases.{pipes_stay}
@@ -53,21 +50,17 @@ use Rattle.explored_calls.proofs.Queued.{Timing}
 use Rattle.explored_calls.proofs.Running.{Follows, Phase, Running, timer_in}
 use Rattle.explored_calls.proofs.Running.Phase.{Is, Timed}
 use Rattle.explored_calls.proofs.RunningSteps
-use Rattle.explored_calls.proofs.RunningSteps.{goes, goes_is}
+use Rattle.explored_calls.proofs.RunningSteps.{goes, goes_is, now_so}
 use Rattle.explored_calls.proofs.TickSteps as steps
 use Rattle.explored_calls.proofs.TickSteps.{ran_out}
 use Rattle.explored_calls.proofs.TimedKinds.{AgainSo, IsKind, IsTicking, OnceSo, inner, kind_along}
 use Rattle.explored_calls.proofs.TimedKinds.{timed_arrived}
-use Rattle.explored_calls.proofs.TimedViews.{Comes, fits_own, inner_view}
-use Rattle.explored_calls.proofs.TimedViews.{own_to, timed}
+use Rattle.explored_calls.proofs.TimedViews.{Comes, Mover, fits_own, inner_view, own_to, timed}
 use Rattle.explored_calls.proofs.TimerFits.{Finds, finds_so, seat_timer}
 use Rattle.explored_calls.proofs.TimerFits.Finds.{FindsNone, FindsOne}
-use Rattle.explored_calls.proofs.RunningSteps.{now_so}
-use Rattle.explored_calls.proofs.TimedViews.{Mover}
 use Rattle.explored_calls.proofs.TickFacts.{back, comes_to, goes_to, hook_quiet, many, out_of}
 use Rattle.explored_calls.proofs.TickFacts.{over_at, own_unset, puts_none, says, settles_tick}
 use Rattle.explored_calls.proofs.TickFacts.{waits_none}
-use Rattle.explored_calls.proofs.Lists.{by_number}
 
 -- a timer that is taken has expired
 ran_timer : (phase : Phase) (moment : ℕ) → timer_in phase ≡ timer.Set moment

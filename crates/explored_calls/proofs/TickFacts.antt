@@ -1,8 +1,7 @@
 -- Where a process is that ticks, and what stays by a move of a tick: it has put no write, waits at
 -- no object, and its own timer is not set.
-use Rattle.std.proofs.Common.{◌≡◌, ◌≢◌, ◌⊎◌, inl, inr, ℕ, zero, suc, ◌<◌}
-use Rattle.std.proofs.Common.{true, false, Option, Some, None, length}
-use Rattle.std.proofs.Common.{refl, ap, ◌∙◌, subst}
+use Rattle.std.proofs.Common.{◌≡◌, ◌≢◌, ◌⊎◌, inl, inr, ℕ, zero, suc, ◌<◌, true, false, Option, Some}
+use Rattle.std.proofs.Common.{None, length, refl, ap, ◌∙◌, subst}
 use Rattle.std.specs.Prelude.{slice_get}
 use Rattle.std.proofs.lemmas.List.{length-replicate}
 use Rattle.timer_list.specs.Timers.{timer_of}
@@ -22,15 +21,13 @@ use Rattle.space_machines.specs.SpaceRuns as meet
 use Rattle.timer_machines.specs.Requests.{TimedReply, TimedRequest}
 use Rattle.timer_machines.specs.TickMachine.{TickState}
 use Rattle.timer_machines.specs.TickMachine.TickState.{Asking as Asks, Telling, Ticked}
-use Rattle.object_machines.specs.ObjectCalls.{ObjectReply, ObjectRequest}
-use Rattle.object_machines.specs.ObjectCalls.{Objects, object_calls}
+use Rattle.object_machines.specs.ObjectCalls.{ObjectReply, ObjectRequest, Objects, object_calls}
 use Rattle.object_machines.specs.ObjectCalls.ObjectCall.{Chooses, InSpace}
 use Rattle.object_machines.specs.OwnCalls.ChoiceState.{HasChosen}
 use Rattle.timed_machines.specs.TimedCalls.{call_does, timed_calls}
 use Rattle.timed_machines.specs.TimedCalls.TimedCall.{Tick}
 use Rattle.timed_machines.specs.TimedObjects.{TimedObjectCall}
-use Rattle.explored_calls.specs.LibraryCalls.{Given, IsCovered, Spot, TicksSo}
-use Rattle.explored_calls.specs.LibraryCalls.{place_after}
+use Rattle.explored_calls.specs.LibraryCalls.{Given, IsCovered, Spot, TicksSo, place_after}
 use Rattle.explored_calls.specs.TimedLibrary.{timed_program}
 use Rattle.explored_calls.proofs.Fits.{Fits, waits_at, waits_in_space}
 use Rattle.explored_calls.proofs.Lists.{at_one}
@@ -38,10 +35,8 @@ use Rattle.explored_calls.proofs.PipePhases.{IsQuiet, PipesFit, put_in}
 use Rattle.explored_calls.proofs.Running.{Follows, Running, timer_in}
 use Rattle.explored_calls.proofs.TimedKinds.{AgainSo, IsKind, IsTicking, OnceSo, inner}
 use Rattle.explored_calls.proofs.TimedKinds.{timed_arrived}
-use Rattle.explored_calls.proofs.TimedViews.{Comes}
-use Rattle.explored_calls.proofs.TimedViews.{timed}
+use Rattle.explored_calls.proofs.TimedViews.{Comes, Mover, timed}
 use Rattle.explored_calls.proofs.TimerFits.{seat_timer}
-use Rattle.explored_calls.proofs.TimedViews.{Mover}
 
 -- a process that ticks has put no write, and waits at no object
 tick_puts : (spot : Spot) (now : ℕ) (at : TickState) (pipe : ℕ)

@@ -12,7 +12,7 @@ use Rattle.sync_base.specs.NoteSet.{no_notes}
 use Rattle.sleep_core.specs.Table.{has_notes}
 use Rattle.semaphore.specs.declared.sema_object.SemaCall.TheVariants.{Acquire, Collect, Leave}
 use Rattle.semaphore.specs.declared.sema_object.SemaReply.TheVariants as reply
-use Rattle.semaphore.specs.declared.sema_object.Stage.TheVariants.{Granted, Idle}
+use Rattle.semaphore.specs.declared.sema_object.Stage.TheVariants.{Idle}
 use Rattle.semaphore.specs.Units.{SemaState, stage_of}
 use Rattle.semaphore.specs.WaitQueue.{without}
 use Rattle.calls.specs.declared.call.Call.TheVariants as call

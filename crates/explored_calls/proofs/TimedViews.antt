@@ -274,89 +274,6 @@ module _ (program : Program) (is_program : IsProgram program) (covered : IsCover
               (there.followed.others other far);
         }
 
-    -- the same where no direction changes
-    pub by_stepped : (object : ObjectStates)
-        → object_with timed w.object grain
-        ≡ record { device = object; timers = w.object.timers }
-        → object.pipes ≡ w.object.device.pipes
-        → ((pipe : ℕ) → put_in (inner (w.state pid)) pipe ≡ None)
-        → IsQuiet objects (inner now_at)
-        → (there : IsStepped program objects m pid pipes (record {
-          object = object;
-          state = at_one pid (inner now_at) (λ (other : ℕ). inner (w.state other));
-          notes = notes_now;
-        }))
-        → IsKind program pid now_at (there.followed.next.phase pid)
-        → Comes w pid grain
-    by_stepped object is same none quiet there kind =
-        by_followed object is
-        (record {
-          pipes = pipes;
-          followed = there.followed;
-          piped = subst (λ ds. PipesFit objects program ds
-              (at_one pid (inner now_at) (λ (other : ℕ). inner (w.state other))) pipes) (sym same)
-              (pipes_stay objects program w.object.device.pipes (λ n. inner (w.state n)) pipes pid
-              (inner now_at) piped none quiet);
-        }) there.timer kind
-
-    -- a move at the timers, or of the process alone
-    pub by_own : (next : Running) (timers : List SeatTimer)
-        → object_with timed w.object grain
-        ≡ record { device = w.object.device; timers = timers }
-        → receiver pid grain ≡ pid
-        → notes_by (w.notes pid) grain ≡ next.notes pid
-        → Follows program pipes next
-        → ((other : ℕ) → other ≢ pid → m.phase other ≡ next.phase other)
-        → ((other : ℕ) → other ≢ pid → m.notes other ≡ next.notes other)
-        → next.values ≡ m.values → next.line ≡ m.line
-        → IsPhase program (granted_in program objects w.object.device pid) pid (inner now_at)
-        (next.phase pid)
-        → IsKind program pid now_at (next.phase pid)
-        → ((pipe : ℕ) → put_in (inner (w.state pid)) pipe ≡ None)
-        → IsQuiet objects (inner now_at)
-        → ((sema : ℕ) → waits_at program (inner now_at) sema ≡ false
-        → waits_at program (inner (w.state pid)) sema ≡ false)
-        → (waits_in_space program (inner now_at) ≡ false
-        → waits_in_space program (inner (w.state pid)) ≡ false)
-        → IsChange w.object.timers timers pid (seat_timer pid (timer_in (next.phase pid)))
-        → Comes w pid grain
-    by_own next timers is own notes_are followed phases notes_else values lines phase kind none
-        quiet idle out change =
-        record {
-          pipes = pipes;
-          next = next;
-          follows = followed;
-          fits = subst (λ (s : TimedObject ObjectStates). Fits program objects (record {
-            object = s.device;
-            state = at_one pid (inner now_at) (λ (other : ℕ). inner (w.state other));
-            notes = notes_now;
-          }) next) (sym is)
-              (subst (λ (n : ℕ). Fits program objects (record {
-                object = w.object.device;
-                state = at_one pid (inner now_at) (λ (other : ℕ). inner (w.state other));
-                notes = at_one n (notes_by (w.notes n) grain) w.notes;
-              }) next) (sym own)
-              (fits_own program objects (inner_view w) m next pid (inner now_at)
-              (notes_by (w.notes pid) grain) fits low phase phases notes_are notes_else values
-              lines idle out));
-          piped = subst (λ (s : TimedObject ObjectStates). PipesFit objects program s.device.pipes
-              (at_one pid (inner now_at) (λ (other : ℕ). inner (w.state other))) pipes) (sym is)
-              (pipes_stay objects program w.object.device.pipes (λ n. inner (w.state n)) pipes pid
-              (inner now_at) piped none quiet);
-          sized = ap (λ (s : TimedObject ObjectStates). length s.timers) is
-              ∙ (change.sized ∙ are.sized);
-          timers = λ other less. ap (λ (s : TimedObject ObjectStates). timer_of s.timers other) is
-              ∙ by_number pid other
-              (λ same. subst (λ (n : ℕ). timer_of timers n
-              ≡ seat_timer n (timer_in (next.phase n))) (sym same) change.own)
-              (λ far. change.others other far
-              ∙ (are.timers other less
-              ∙ ap (λ (p : Phase). seat_timer other (timer_in p)) (phases other far)));
-          kind = kind;
-          kinds_else = λ other less far. subst (IsKind program other (w.state other))
-              (phases other far) (are.kinds other less);
-        }
-
     -- ---- where it is known where the process is
 
     -- after a move at the objects
@@ -398,15 +315,17 @@ module _ (program : Program) (is_program : IsProgram program) (covered : IsCover
         }))
         → IsKind program pid now (there.followed.next.phase pid)
         → Comes w pid grain
-    stepped_to now is object same pipes_same none =
-        subst (λ (s : ProgramState Spot TimedObjectCall). IsQuiet objects (inner s)
-        → (there : IsStepped program objects m pid pipes (record {
-          object = object;
-          state = at_one pid (inner s) (λ (other : ℕ). inner (w.state other));
-          notes = notes_now;
-        }))
-        → IsKind program pid s (there.followed.next.phase pid)
-        → Comes w pid grain) is (by_stepped object same pipes_same none)
+    stepped_to now is object same pipes_same none quiet there kind =
+        followed_to now is object same
+        (record {
+          pipes = pipes;
+          followed = there.followed;
+          piped = subst (λ ds. PipesFit objects program ds
+              (at_one pid (inner now) (λ (other : ℕ). inner (w.state other))) pipes)
+              (sym pipes_same)
+              (pipes_stay objects program w.object.device.pipes (λ n. inner (w.state n)) pipes pid
+              (inner now) piped none quiet);
+        }) there.timer kind
 
     -- or after one of the process alone
     pub own_to : (now : ProgramState Spot TimedObjectCall) → now_at ≡ now
@@ -430,17 +349,48 @@ module _ (program : Program) (is_program : IsProgram program) (covered : IsCover
         → waits_in_space program (inner (w.state pid)) ≡ false)
         → IsChange w.object.timers timers pid (seat_timer pid (timer_in (next.phase pid)))
         → Comes w pid grain
-    own_to now is next timers same own notes_are followed phases notes_else values lines =
-        subst (λ (s : ProgramState Spot TimedObjectCall).
-        IsPhase program (granted_in program objects w.object.device pid) pid (inner s)
-        (next.phase pid)
-        → IsKind program pid s (next.phase pid)
-        → ((pipe : ℕ) → put_in (inner (w.state pid)) pipe ≡ None)
-        → IsQuiet objects (inner s)
-        → ((sema : ℕ) → waits_at program (inner s) sema ≡ false
-        → waits_at program (inner (w.state pid)) sema ≡ false)
-        → (waits_in_space program (inner s) ≡ false
-        → waits_in_space program (inner (w.state pid)) ≡ false)
-        → IsChange w.object.timers timers pid (seat_timer pid (timer_in (next.phase pid)))
-        → Comes w pid grain) is
-        (by_own next timers same own notes_are followed phases notes_else values lines)
+    own_to now is next timers same own notes_are followed phases notes_else values lines phase kind
+        none quiet idle out change =
+        record {
+          pipes = pipes;
+          next = next;
+          follows = followed;
+          fits = subst (λ (s : ProgramState Spot TimedObjectCall). Fits program objects (record {
+            object = (object_with timed w.object grain).device;
+            state = at_one pid (inner s) (λ (other : ℕ). inner (w.state other));
+            notes = notes_now;
+          }) next) (sym is)
+              (subst (λ (s : TimedObject ObjectStates). Fits program objects (record {
+                object = s.device;
+                state = at_one pid (inner now) (λ (other : ℕ). inner (w.state other));
+                notes = notes_now;
+              }) next) (sym same)
+              (subst (λ (n : ℕ). Fits program objects (record {
+                object = w.object.device;
+                state = at_one pid (inner now) (λ (other : ℕ). inner (w.state other));
+                notes = at_one n (notes_by (w.notes n) grain) w.notes;
+              }) next) (sym own)
+              (fits_own program objects (inner_view w) m next pid (inner now)
+              (notes_by (w.notes pid) grain) fits low phase phases notes_are notes_else values
+              lines idle out)));
+          piped = subst (λ (s : ProgramState Spot TimedObjectCall). PipesFit objects program
+              (object_with timed w.object grain).device.pipes
+              (at_one pid (inner s) (λ (other : ℕ). inner (w.state other))) pipes) (sym is)
+              (subst (λ (s : TimedObject ObjectStates). PipesFit objects program s.device.pipes
+              (at_one pid (inner now) (λ (other : ℕ). inner (w.state other))) pipes) (sym same)
+              (pipes_stay objects program w.object.device.pipes (λ n. inner (w.state n)) pipes pid
+              (inner now) piped none quiet));
+          sized = ap (λ (s : TimedObject ObjectStates). length s.timers) same
+              ∙ (change.sized ∙ are.sized);
+          timers = λ other less. ap (λ (s : TimedObject ObjectStates). timer_of s.timers other) same
+              ∙ by_number pid other
+              (λ one. subst (λ (n : ℕ). timer_of timers n
+              ≡ seat_timer n (timer_in (next.phase n))) (sym one) change.own)
+              (λ far. change.others other far
+              ∙ (are.timers other less
+              ∙ ap (λ (p : Phase). seat_timer other (timer_in p)) (phases other far)));
+          kind = subst (λ (s : ProgramState Spot TimedObjectCall).
+              IsKind program pid s (next.phase pid)) (sym is) kind;
+          kinds_else = λ other less far. subst (IsKind program other (w.state other))
+              (phases other far) (are.kinds other less);
+        }

@@ -1,6 +1,6 @@
 -- A call with a deadline sets its timer, cancels it, awaits the note of a tick and puts notes back:
 -- each move is followed by the explorer.
-use Rattle.std.proofs.Common.{◌≡◌, ◌≢◌, ◌⊎◌, inl, inr, ℕ, ◌<◌, Bool, if◌then◌else◌, true, false}
+use Rattle.std.proofs.Common.{◌≡◌, ◌≢◌, ◌⊎◌, inl, inr, ℕ, Bool, if◌then◌else◌, true, false}
 use Rattle.std.proofs.Common.{◌||◌, Some, None, List, refl, sym, ap, ◌∙◌, subst}
 use Rattle.std.proofs.Common.{Ok, Err}
 use Rattle.sync_base.specs.declared.fault.Fault.TheVariants as fault
@@ -25,8 +25,7 @@ use Rattle.calls.specs.Calls.{is_sleep}
 use Rattle.calls.specs.Lines.{is_used}
 use Rattle.calls.specs.declared.call.Call.{Call}
 use Rattle.calls.specs.declared.call.Call.TheVariants as call
-use Rattle.calls.specs.Pipes.{Direction}
-use Rattle.calls.specs.Program.{IsProgram, Program, procs_of}
+use Rattle.calls.specs.Program.{IsProgram, Program}
 use Rattle.calls.specs.Timers.{cancelled}
 use Rattle.call_machines.specs.Grain.{Grain, notes_by, object_with, outcome_by, receiver}
 use Rattle.call_machines.specs.Grain.Grain.{Heard, Noted, Returned, Woken}
@@ -47,17 +46,17 @@ use Rattle.object_machines.specs.ObjectCalls.{Objects, object_calls}
 use Rattle.timed_machines.specs.TimedCalls.TimedCall.{Until}
 use Rattle.timed_machines.specs.TimedObjects.{TimedObjectCall}
 use Rattle.timed_machines.proofs.TimerFacts.{IsChange, added_so, cancelled_so, stays_so}
-use Rattle.explored_calls.specs.LibraryCalls.{AreItsObjects, Given, IsCovered, Spot}
+use Rattle.explored_calls.specs.LibraryCalls.{Given, IsCovered, Spot}
 use Rattle.explored_calls.proofs.Arrivals.{at_else, at_self}
 use Rattle.explored_calls.proofs.CallsEnd.{AsExplored, IsEnd, awaits_so, cancels_so}
 use Rattle.explored_calls.proofs.CallsEnd.{awaits_on, ending_so}
 use Rattle.explored_calls.proofs.CallsLand.{EndsSo, Lands, after_noted, after_out, after_phase}
 use Rattle.explored_calls.proofs.CallsLand.{before_it, ends_so, lands, settles}
 use Rattle.explored_calls.proofs.CallsLand.{shown_after}
-use Rattle.explored_calls.proofs.Fits.{Fits, HasClock, IsPhase, granted_in, waits_at}
+use Rattle.explored_calls.proofs.Fits.{HasClock, IsPhase, granted_in, waits_at}
 use Rattle.explored_calls.proofs.Fits.{waits_in_space}
 use Rattle.explored_calls.proofs.LibrarySteps.{has_deadline, only_asks, only_returns, only_sleeps}
-use Rattle.explored_calls.proofs.PipePhases.{IsQuiet, PipesFit, put_in}
+use Rattle.explored_calls.proofs.PipePhases.{IsQuiet, put_in}
 use Rattle.explored_calls.proofs.Queued.{Clock, Timing, clock_is, is_for}
 use Rattle.explored_calls.proofs.Running.{Follows, Phase, Running, joined_moved}
 use Rattle.explored_calls.proofs.Running.{joined_none, timer_in}
@@ -65,11 +64,12 @@ use Rattle.explored_calls.proofs.Running.{seen, waits_by}
 use Rattle.explored_calls.proofs.Running.Phase.{Is, Timed}
 use Rattle.explored_calls.proofs.RunningSteps.{goes, goes_is}
 use Rattle.explored_calls.proofs.TimedKinds.{IsDone, IsKind, IsUntil, WaitsSo, inner}
-use Rattle.explored_calls.proofs.TimedViews.{AreKinds, Comes, TimedView, inner_view, own_to, timed}
+use Rattle.explored_calls.proofs.TimedViews.{Comes, own_to, timed}
 use Rattle.explored_calls.proofs.TimerFits.{seat_timer}
 use Rattle.explored_calls.proofs.TimingSteps as steps
 use Rattle.explored_calls.proofs.RunningSteps.{now_so}
 use Rattle.explored_calls.proofs.WaitSteps
+use Rattle.explored_calls.proofs.TimedViews.{Mover}
 
 -- a call with a deadline that is covered is no sleep
 no_sleep : (made : Call) → has_deadline made ≡ true → is_sleep made ≡ false
@@ -91,15 +91,21 @@ note_came false false false none some = cc
 
 module _ (program : Program) (is_program : IsProgram program) (covered : IsCovered program)
     (given : Spot → Given) (objects : Objects) where
-  module _ (objects_are : AreItsObjects program objects)
-      (w : TimedView program is_program covered given objects) (pipes : List Direction) (m :
-      Running)
-      (follows : Follows program pipes m)
-      (fits : Fits program objects (inner_view program is_program covered given objects w) m)
-      (piped : PipesFit objects program w.object.device.pipes (λ n. inner (w.state n)) pipes)
-      (are : AreKinds program is_program covered given objects w m) (pid : ℕ)
-      (low : pid < procs_of program)
+  module _ (its : Mover program is_program covered given objects)
       (grain : Grain (TimedRequest ObjectRequest) (TimedReply ObjectReply)) where
+    open its use {
+      objects_are,
+      w,
+      pipes,
+      m,
+      follows,
+      fits,
+      piped,
+      are,
+      pid,
+      low,
+    }
+
     -- the explorer follows after this move
     abbrev Follow : Grain (TimedRequest ObjectRequest) (TimedReply ObjectReply) → Type 0
     Follow g = Comes program is_program covered given objects w pid g

@@ -1,8 +1,7 @@
 -- The moves of a call with a deadline at its object, whatever the object is: one that has slept has
 -- set its timer, and one that has not goes on as its call at the object would.
-use Rattle.std.proofs.Common.{◌≡◌, ◌⊎◌, inl, inr, ℕ, Bool, if◌then◌else◌, true, false}
-use Rattle.std.proofs.Common.{Option, Some, None, refl, sym, ap, ◌∙◌, subst, arith}
-use Rattle.std.proofs.Common.{Ok, Err}
+use Rattle.std.proofs.Common.{◌≡◌, ◌⊎◌, inl, inr, ℕ, Bool, if◌then◌else◌, true, false, Option, Some}
+use Rattle.std.proofs.Common.{None, refl, sym, ap, ◌∙◌, subst, arith, Ok, Err}
 use Rattle.std.specs.Prelude.{slice_get}
 use Rattle.sync_base.specs.declared.fault.Fault.{Fault}
 use Rattle.sync_base.specs.declared.note.NoteSet.{NoteSet}
@@ -21,35 +20,29 @@ use Rattle.call_machines.specs.Programs.{ProgramState}
 use Rattle.call_machines.specs.Programs.ProgramState.{In}
 use Rattle.call_machines.specs.WaitTables.WaitState.{Waits}
 use Rattle.timer_machines.specs.Requests.{TimedReply, TimedRequest}
-use Rattle.timer_machines.specs.TimedMachines.{Deadline, TimedState, timed_goes_on, waits_with}
-use Rattle.timer_machines.specs.TimedMachines.{begins_with}
-use Rattle.timer_machines.specs.TimedMachines.TimedState.{Begins}
-use Rattle.timer_machines.specs.TimedMachines.TimedState.{Waits as WaitsFor}
+use Rattle.timer_machines.specs.TimedMachines.{Deadline, TimedState, begins_with, timed_goes_on}
+use Rattle.timer_machines.specs.TimedMachines.{waits_with}
+use Rattle.timer_machines.specs.TimedMachines.TimedState.{Begins, Waits as WaitsFor}
 use Rattle.object_machines.specs.ObjectCalls.{ObjectCall, ObjectOut, ObjectReply, ObjectRequest}
-use Rattle.object_machines.specs.ObjectCalls.{Objects, object_calls, object_does}
-use Rattle.object_machines.specs.ObjectCalls.{ObjectStates}
+use Rattle.object_machines.specs.ObjectCalls.{ObjectStates, Objects, object_calls, object_does}
 use Rattle.timed_machines.specs.TimedCalls.{timed_calls}
 use Rattle.timed_machines.specs.TimedCalls.TimedCall.{Until}
 use Rattle.timed_machines.specs.TimedCalls.TimedOut.{FromCall}
 use Rattle.timed_machines.specs.TimedObjects.{TimedObjectCall}
-use Rattle.explored_calls.specs.LibraryCalls.{Given, IsCovered, Spot}
-use Rattle.explored_calls.specs.LibraryCalls.{library_program, place_for}
+use Rattle.explored_calls.specs.LibraryCalls.{Given, IsCovered, Spot, library_program, place_for}
 use Rattle.explored_calls.specs.TimedLibrary.{timed_program}
 use Rattle.explored_calls.proofs.Arrivals.{arrived, arrives, at_self}
 use Rattle.explored_calls.proofs.CallsLand.{settles}
-use Rattle.explored_calls.proofs.Fits.{Fits, HasClock, IsPhase, TimedPhase, View}
-use Rattle.explored_calls.proofs.Fits.{IsStepped, granted_in}
+use Rattle.explored_calls.proofs.Fits.{Fits, HasClock, IsPhase, IsStepped, TimedPhase, View}
+use Rattle.explored_calls.proofs.Fits.{granted_in}
 use Rattle.explored_calls.proofs.Lists.{at_one}
 use Rattle.explored_calls.proofs.PipePhases.{IsQuiet, put_in}
 use Rattle.explored_calls.proofs.Queued.{Clock, Timing, clock_is}
 use Rattle.explored_calls.proofs.Running.{Phase, Running, timer_in}
 use Rattle.explored_calls.proofs.Running.Phase.{Timed}
-use Rattle.explored_calls.proofs.TimedKinds.{BeginsSo, IsKind, IsUntil, WaitsSo}
-use Rattle.explored_calls.proofs.TimedKinds.{arrives_so}
-use Rattle.explored_calls.proofs.TimedKinds.{UntilSo, inner, inner_arrived, timed_arrived}
-use Rattle.explored_calls.proofs.TimedViews.{Comes, inner_view}
-use Rattle.explored_calls.proofs.TimedViews.{stepped_to, timed}
-use Rattle.explored_calls.proofs.TimedViews.{Mover}
+use Rattle.explored_calls.proofs.TimedKinds.{BeginsSo, IsKind, IsUntil, UntilSo, WaitsSo}
+use Rattle.explored_calls.proofs.TimedKinds.{arrives_so, inner, inner_arrived, timed_arrived}
+use Rattle.explored_calls.proofs.TimedViews.{Comes, Mover, inner_view, stepped_to, timed}
 
 -- a clock stands for a timer that is set, or was taken
 not_unset : (clock : Clock) → clock_is clock ≡ timer.Unset → ⊥

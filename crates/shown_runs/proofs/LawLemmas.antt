@@ -45,23 +45,23 @@ module _ (program : Program) (given : Spot → Given) (objects : Objects)
     (shown : AreShownCalls program) (have : HaveEnds program given objects) where
   -- it came to a call that is never to be made, and changed nothing else by that
   pub record StopsThere (movers : List ℕ) : Type 0 where
-    -- the movers before the last one
+    -- the schedule before its last step
     pub past : List ℕ
-    -- the calls come to where those lead
+    -- which a run has followed
     pub before : IsFollowed program given objects are is_program shown past
-    -- the process that the last one moves
+    -- the process of that last step
     pub pid : ℕ
-    -- the line where this process is
+    -- the line where it was
     pub line : Line
-    -- it has not made the call there
+    -- it was about to make its call
     pub is_at : IsAtCall program before.q pid line
     -- which is never to be made
     pub never : line.call ≡ call.Never
-    -- the processes are as they were before
+    -- each process is where it was
     pub same : (position_of (system_of program) movers).processes
         ≡ (position_of (system_of program) past).processes
 
-  -- so does each schedule that has reached it
+  -- so it is with each schedule that has reached such a call
   pub stops_there : (movers : List ℕ) → IsSchedule (system_of program) movers
       → AreFewSteps program movers
       → (position_of (system_of program) movers).course ≡ course.Reached → StopsThere movers

@@ -9,5 +9,7 @@ returns-clause-reached c =
 
 pub returns-clause-stuck : goal.returns-clause-stuck
 returns-clause-stuck c =
-    λ program given objects movers is_program shown are have schedule few is_open stuck pid there.
-    not_at_never program given objects are is_program shown have movers few is_open stuck pid there
+    λ program given objects movers is_program shown are have schedule few is_open stuck pid
+    at_never.
+    not_at_never program given objects are is_program shown have movers few is_open stuck pid
+    at_never
