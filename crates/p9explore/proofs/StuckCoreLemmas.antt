@@ -22,7 +22,7 @@ use Rattle.p9explore.specs.declared.asked.Asked.{Asked}
 use Rattle.p9explore.specs.declared.run.TheConstants.{STUCK}
 use Rattle.p9explore.specs.Answering.{Answers, Subject, call_status, printing, showing_of}
 use Rattle.p9explore.specs.Answering.{status_of, subject_in}
-use Rattle.p9explore.specs.CallSteps.{as_line}
+use Rattle.p9explore.specs.CallSteps.{in_lines}
 use Rattle.p9explore.specs.CallText.{IsCallText, ShowsSchedule, front_text}
 use Rattle.p9explore.specs.ExploredScripts.{ScriptsCanBeMade, calls_read, calls_spelled}
 use Rattle.p9explore.specs.LaidLines.{laid_program}
@@ -64,7 +64,7 @@ module _ (made : ScriptsCanBeMade) (told : CoreProgramsAreTold) (steps : StuckSt
           prints = subst (Appends held written)
               (is ∙ (ap (λ (l : List ℕ). head ++ l) shows.is
               ∙ sym (append_assoc head front _))) prints;
-          deadlocks = steps (as_line about.how.names) program core movers.items shows.steps
+          deadlocks = steps (in_lines about.how.names) program core movers.items shows.steps
               (made script program spells) ((told program core).0 of_core)
               (gets_stuck (system_of program) asked.order asked.most states movers others holds)
               shows.are_steps;

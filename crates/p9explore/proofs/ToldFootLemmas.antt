@@ -82,7 +82,7 @@ module _ (program : Program) (at : CorePosition) where
         → ShowsWait how pid (process_at program at pid) line part
         → part ≡ parked_text how pid status.Parked line
     one_line pid None part is shows = shows
-    one_line pid (Some line) part is shows = shows of_core (plainly pid line is)
+    one_line pid (Some line) part is shows = shows.sleeps of_core (plainly pid line is)
 
     one_part : (pid : ℕ) → pid < procs_of program → (able : Status) (part : List ℕ)
         → status_of program spot pid ≡ able

@@ -1,6 +1,7 @@
 -- What is shown of schedules of the core, and of who sleeps at their end: an example of each row.
-use Rattle.std.proofs.Common.{◌≡◌, ◌++◌, ℕ, true, false, List, [], ◌∷◌, Some, None, codes, refl}
-use Rattle.std.proofs.Common.{arith}
+use Rattle.std.proofs.Common.{◌≡◌, ◌++◌, ℕ, true, false, List, [], ◌∷◌, Option, Some, None}
+use Rattle.std.proofs.Common.{ap, arith, codes, refl}
+use Rattle.std.specs.Prelude.{slice_index}
 use Rattle.std.specs.Fmt.{decimal}
 use Rattle.sync_base.specs.declared.ids.Pid.{Pid}
 use Rattle.sync_base.specs.NoteSet.{no_notes}
@@ -19,17 +20,18 @@ use Rattle.calls.specs.declared.process.Standing.{Standing}
 use Rattle.calls.specs.declared.process.Standing.TheVariants as standing
 use Rattle.calls.specs.declared.process.Timer.{Timer}
 use Rattle.calls.specs.declared.process.Timer.TheVariants as timer
+use Rattle.calls.specs.declared.process.Want.TheVariants as want
 use Rattle.calls.specs.declared.rendez.Stage.TheVariants as stage
 use Rattle.calls.specs.Position.{Position, after_of, opening_of}
 use Rattle.calls.specs.Program.{Program}
 use Rattle.explored_core.specs.CoreLines.{line_to}
 use Rattle.p9explore.specs.declared.call_answer.Showing.{Showing}
 use Rattle.p9explore.specs.declared.names.Kind.TheVariants as kind
-use Rattle.p9explore.specs.CallFoot.{ShowsBy, ShowsRefusal, Telling, begins_sleep, is_posted}
-use Rattle.p9explore.specs.CallFoot.{refuses, sleeper_text, sleeps_plainly, step_of, telling}
+use Rattle.p9explore.specs.CallFoot.{ShowsBy, ShowsRefusal, ShowsWait, Telling, begins_sleep}
+use Rattle.p9explore.specs.CallFoot.{is_posted, refuses, sleeper_text, sleeps_plainly, telling}
 use Rattle.p9explore.specs.CallFoot.{until_text}
-use Rattle.p9explore.specs.CallSteps.{ShowsStep, ShowsSteps, as_line, column_text, in_column}
-use Rattle.p9explore.specs.CallSteps.{process_of}
+use Rattle.p9explore.specs.CallSteps.{ShowsStep, ShowsSteps, as_line, column_front, column_text}
+use Rattle.p9explore.specs.CallSteps.{in_column, in_lines, line_front, process_of, step_at, step_of}
 use Rattle.p9explore.specs.CallText.{ShowsSchedule, chart_head, chart_of, front_text, if_core}
 use Rattle.p9explore.specs.CallText.{in_words}
 use Rattle.p9explore.specs.Names.{Named, object_at}
@@ -77,11 +79,34 @@ test_line pid = codes "test " ++ (decimal pid ++ codes "\n")
 
 -- ---- steps
 
-a_step_of_the_core : ShowsStep (as_line [] two_sleep 0) (Some (post_of 0 5)) (post_line 0 5)
+-- the step of this mover there, which is this event, has this line
+abbrev ShownAs : ℕ → Option Event → List ℕ → Type 0
+ShownAs mover =
+    ShowsStep (as_line names two_sleep mover) (line_front names two_sleep mover)
+    (step_at two_sleep (opening_of two_sleep) mover)
+
+a_step_of_the_core :
+    ShownAs 0 (Some (post_of 0 5)) (codes "post first here " ++ (decimal 5 ++ codes "\n"))
 a_step_of_the_core = (refl, (omega arith, omega arith, omega arith))
 
-other_steps_have_any_line : ShowsStep (as_line [] two_sleep 0) None (codes "anything")
-other_steps_have_any_line = tt
+another_step_begins_with_its_process : ShownAs 1 None (codes "second goes on\n")
+another_step_begins_with_its_process = (codes " goes on", refl)
+
+and_with_no_other : ¬ (ShownAs 1 None (codes "first goes on\n"))
+and_with_no_other shows =
+    let same : 102 ≡ 115 = ap (λ (l : List ℕ). slice_index l 0) shows.1 in omega (arith, same)
+
+it_has_a_line : ¬ (ShownAs 1 None [])
+it_has_a_line shows = let same = shows.1 in cc
+
+the_end_of_the_program_has_none : ShownAs 4 None []
+the_end_of_the_program_has_none = refl
+
+nor_another_text : ¬ (ShownAs 4 None (codes "x"))
+nor_another_text shows = cc
+
+in_its_column : column_front names two_sleep 1 1 ≡ codes "|               second"
+in_its_column = refl
 
 with_names : as_line names two_sleep 0 (post_of 0 5)
     ≡ codes "post first here " ++ (decimal 5 ++ codes "\n")
@@ -108,7 +133,7 @@ a_line_in_a_column : column_text 1 (codes "x") ≡ codes "|               x"
 a_line_in_a_column = refl
 
 -- a part for each step, oldest first
-all_of_them : ShowsSteps (as_line []) two_sleep (opening_of two_sleep) (0 ∷ 1 ∷ 0 ∷ [])
+all_of_them : ShowsSteps (in_lines []) two_sleep (opening_of two_sleep) (0 ∷ 1 ∷ 0 ∷ [])
     (post_line 0 5 ++ (post_line 1 7 ++ (test_line 0 ++ [])))
 all_of_them = (
   post_line 0 5,
@@ -207,6 +232,25 @@ until_a_moment = refl
 
 while_it_is_set : until_text timer.Expired ≡ []
 while_it_is_set = refl
+
+-- one that waits for a unit
+abbrev waits_so : Telling → List ℕ → Type 0
+waits_so how =
+    ShowsWait how 1 (process_with (standing.Waits (want.Unit 0) 0) timer.Unset)
+    (Some (line_to (sleep 0 5) 2))
+
+in_words_its_line_begins_with_it :
+    waits_so (telling names true false) (codes "second waits for a unit\n")
+in_words_its_line_begins_with_it =
+    record { begins = λ on. (codes "for a unit", refl); sleeps = λ core. absurd cc }
+
+not_with_another : ¬ (waits_so (telling names true false) (codes "first waits for a unit\n"))
+not_with_another shows =
+    let same : 102 ≡ 115 = ap (λ (l : List ℕ). slice_index l 0) (shows.begins refl).1 in
+    omega (arith, same)
+
+it_is_not_left_out : ¬ (waits_so (telling names true false) [])
+it_is_not_left_out shows = let same = (shows.begins refl).1 in cc
 
 who_can_go_on_has_no_line : ShowsBy status.Ready ⊥ []
 who_can_go_on_has_no_line = refl
