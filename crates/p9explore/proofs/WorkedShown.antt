@@ -8,13 +8,10 @@ use Rattle.sync_base.specs.NoteSet.{no_notes}
 use Rattle.sleep_core.specs.declared.answer.Answer.TheVariants as answer
 use Rattle.sleep_core.specs.declared.event.Event.{Event}
 use Rattle.sleep_core.specs.declared.event.Event.TheVariants as event
-use Rattle.sleep_core.specs.Runs.{Entry}
 use Rattle.searches.specs.declared.status.Status.TheVariants as status
-use Rattle.schedules.specs.declared.call.Call.TheVariants as core
 use Rattle.schedules.proofs.Worked.{sleep}
 use Rattle.calls.specs.declared.call.Call.TheVariants as call
 use Rattle.calls.specs.declared.ending.Ending.TheVariants as ending
-use Rattle.calls.specs.declared.line.Line.{Line}
 use Rattle.calls.specs.declared.process.Process.{Process}
 use Rattle.calls.specs.declared.process.Standing.{Standing}
 use Rattle.calls.specs.declared.process.Standing.TheVariants as standing
@@ -32,7 +29,7 @@ use Rattle.p9explore.specs.CallFoot.{is_posted, refuses, sleeper_text, sleeps_pl
 use Rattle.p9explore.specs.CallFoot.{until_text}
 use Rattle.p9explore.specs.CallSteps.{ShowsStep, ShowsSteps, as_line, column_front, column_text}
 use Rattle.p9explore.specs.CallSteps.{in_column, in_lines, line_front, process_of, step_at, step_of}
-use Rattle.p9explore.specs.CallText.{ShowsSchedule, chart_head, chart_of, front_text, if_core}
+use Rattle.p9explore.specs.CallText.{chart_head, chart_of, front_text, if_core}
 use Rattle.p9explore.specs.CallText.{in_words}
 use Rattle.p9explore.specs.Names.{Named, object_at}
 use Rattle.p9explore.specs.Nevers.{played}
