@@ -1,11 +1,10 @@
 -- All seats of a queue: they are in order when it is made, and each call leaves them so.
-use Rattle.std.proofs.Common.{◌≡◌, ℕ, suc, ◌+◌, List, [], ◌∷◌, ◌++◌, length}
+use Rattle.std.proofs.Common.{◌≡◌, ℕ, suc, ◌+◌, List, ◌∷◌, ◌++◌, length}
 use Rattle.std.proofs.Common.{refl, sym, ap, ◌∙◌, arith, Some}
 use Rattle.std.specs.Prelude.{slice_get}
 use Rattle.std.specs.List.{AllByRecursion}
 use Rattle.histories.specs.declared.account.Account.{Account}
 use Rattle.histories.specs.Account.{numbers_from}
-use Rattle.histories.proofs.ListLemmas.{all_append, all_past, all_since}
 use Rattle.block_queue.specs.declared.answers.PutAnswer.{PutAnswer}
 use Rattle.block_queue.specs.declared.answers.PutAnswer.TheVariants as put
 use Rattle.block_queue.specs.declared.answers.TakeAnswer.{TakeAnswer}
@@ -134,31 +133,3 @@ pub new_are_seats : (queue : Queue) (count : ℕ) (puts : List PutSeat) →
     AreNewPutSeats queue count puts → AllByRecursion (IsPutSeatOf queue) puts
 new_are_seats queue count puts are =
     seats_from queue puts (λ index seat at. (are.each index seat at).seat_is)
-
--- a call of the reader, and one of a writer
-pub all_after_take : (old new : TakeSeat) (puts : List PutSeat) → AreAllSeats old puts →
-    IsSameSeat (take_account old) (take_account new) → AreAllSeats new puts
-all_after_take old new puts are same = record { order = same.gave ∙ are.order; none = are.none }
-
--- all seats are all seats after a call of one writer
-pub all_after_put : (take : TakeSeat) (front back : List PutSeat) (old new : PutSeat) →
-    AreAllSeats take (front ++ old ∷ back) → new.writer ≡ old.writer →
-    IsSameSeat (put_account old) (put_account new) → AreAllSeats take (front ++ new ∷ back)
-all_after_put take front back old new are writer same =
-    record {
-      order = are.order ∙ numbers front;
-      none = all_append NoneGiven front (new ∷ back)
-          (all_since NoneGiven front (old ∷ back) are.none)
-          (same.gave ∙ rest.0, rest.1);
-    }
-  where
-    NoneGiven : PutSeat → Type 0
-    NoneGiven seat = (put_account seat).gave ≡ []
-
-    rest : AllByRecursion NoneGiven (old ∷ back)
-    rest = all_past NoneGiven front (old ∷ back) are.none
-
-    numbers : (seats : List PutSeat) →
-        numbers_of (seats ++ old ∷ back) ≡ numbers_of (seats ++ new ∷ back)
-    numbers [] = ap (λ (n : ℕ). (n + 1) ∷ numbers_of back) (sym writer)
-    numbers (seat ∷ seats) = ap (λ (ns : List ℕ). (seat.writer + 1) ∷ ns) (numbers seats)

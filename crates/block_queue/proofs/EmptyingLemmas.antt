@@ -1,6 +1,6 @@
 -- What the takes come to by which a reader with all numbers empties its queue.
-use Rattle.std.proofs.Common.{◌≡◌, ◌≢◌, ⊎_elim, length-append, ℕ, ◌+◌, ◌-◌, ◌<◌, ◌≤◌, List, [], ◌∷◌}
-use Rattle.std.proofs.Common.{◌++◌, length, get_or, refl, sym, ap, subst, ◌∙◌, arith, Some, None}
+use Rattle.std.proofs.Common.{◌≡◌, ◌≢◌, ⊎_elim, length-append, ℕ, ◌+◌, ◌-◌, ◌<◌, ◌≤◌, List, ◌∷◌}
+use Rattle.std.proofs.Common.{◌++◌, length, get_or, sym, ap, subst, ◌∙◌, arith, Some, None}
 use Rattle.std.specs.Prelude.{slice_get}
 use Rattle.std.proofs.lemmas.Option.{slice_get-get_or}
 use Rattle.histories.specs.declared.account.Account.{Account}
@@ -13,7 +13,7 @@ use Rattle.sync_base.specs.Write.{Write}
 use Rattle.block_queue.specs.declared.entry.Entry.{Entry}
 use Rattle.block_queue.specs.declared.entry.Entry.TheVariants as entry
 use Rattle.block_queue.specs.declared.view.Key.{Key}
-use Rattle.block_queue.specs.Gather.{with_blocks, IsLeft, Empties, IsEmptying}
+use Rattle.block_queue.specs.Gather.{with_blocks, IsLeft, IsEmptying}
 use Rattle.block_queue.proofs.RuleMoves.{history_fits}
 use Rattle.block_queue.proofs.StateLemmas.{begun_is}
 use Rattle.block_queue.specs.History.{QueueState, IsRight, IsBlock, IsNotYet, seat_of, after_entry}
@@ -122,18 +122,6 @@ module _ (key : Key) (account : Account Entry) (left : ℕ) (is : IsLeft key acc
 
 -- ---- the loop of takes
 
--- before the first take nothing is emptied
-pub none_emptied : (key : Key) (left : ℕ) (account : Account Entry) (blocks : List Write) → blocks ≡
-    [] → IsLeft key account left → IsEmptying key left account account blocks
-none_emptied key left account blocks none is =
-    subst (IsEmptying key left account account) (sym none)
-    record {
-      few = omega arith;
-      is_left = subst (IsLeft key account) (omega arith) is;
-      seen = refl;
-      begun = omega arith;
-    }
-
 -- a take of the next block adds its write after those that were taken before
 pub one_emptied : (key : Key) (left : ℕ) (old now new : Account Entry) (blocks :
     List Write) (write : Write) (number : ℕ) → key.first ≤ LAST_WRITE → length blocks < left →
@@ -160,9 +148,3 @@ one_emptied key left old now new blocks write number given more is enters =
           write old.seen);
       begun = begun ∙ ap (λ (n : ℕ). n + 1) is.begun ∙ omega arith;
     }
-
--- once as many blocks were taken as were left, the queue is empty
-pub all_emptied : (key : Key) (left : ℕ) (old now : Account Entry) (blocks : List Write) →
-    IsEmptying key left old now blocks → left ≤ length blocks → Empties key left old now blocks
-all_emptied key left old now blocks is all = let few =
-    is.few in record { seen = is.seen; none = subst (IsLeft key now) (omega arith) is.is_left }

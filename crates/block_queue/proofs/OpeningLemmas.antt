@@ -1,5 +1,5 @@
 -- How the reader of a new queue hands its numbers over.
-use Rattle.std.proofs.Common.{◌≡◌, ℕ, suc, ◌+◌, ◌-◌, ◌<◌, List, [], ◌∷◌, ◌++◌, length, map, refl}
+use Rattle.std.proofs.Common.{◌≡◌, ℕ, suc, ◌+◌, ◌-◌, ◌<◌, List, ◌∷◌, ◌++◌, length, map, refl}
 use Rattle.std.proofs.Common.{sym, ap, subst, ◌∙◌, arith, length-append, eq-eqb}
 use Rattle.std.specs.Prelude.{slice_get}
 use Rattle.std.proofs.lemmas.Option.{slice_get_within}
@@ -107,14 +107,4 @@ one_more_seat queue count seats seat are is =
           slice_get_within (seats ++ seat ∷ []) writer other at in
           let less : writer < length seats = omega (arith, length-append seats (seat ∷ [])) in
           are.each writer other (sym (slice_get_snoc seats seat writer less) ∙ at));
-    }
-
--- before the first hand there are no new seats
-pub no_seats : (queue : Queue) (seats : List PutSeat) → seats ≡ [] → AreNewPutSeats queue 0 seats
-no_seats queue seats none =
-    subst (AreNewPutSeats queue 0) (sym none)
-    record {
-      count_is = refl;
-      each = λ writer seat at. let below =
-          slice_get_within [] writer seat at in absurd (omega arith);
     }

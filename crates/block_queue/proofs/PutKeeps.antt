@@ -1,6 +1,6 @@
 -- The steps of a put keep the rule.
 use Rattle.std.proofs.Common.{◌≡◌, ◌≢◌, ⊎_elim, ℕ, ◌+◌, ◌-◌, ◌<◌, Bool, true, false, cond, eqb}
-use Rattle.std.proofs.Common.{List, [], ◌∷◌, length, get_or, set, refl, sym, ap, subst, ◌∙◌, arith}
+use Rattle.std.proofs.Common.{List, ◌∷◌, length, get_or, set, refl, sym, ap, subst, ◌∙◌, arith}
 use Rattle.std.proofs.Common.{eq-eqb, ne_eqb, lt_of_not-le, Option, Some, None}
 use native.Mathlib.Decide.{dec_le, ℕ_discrete}
 use mathlib.Core.Logic.{dite}
@@ -478,9 +478,6 @@ module _ (asked : Asked) (slots id : ℕ) (me : Seated) (own :
     storing : IsStoring asked.key.first s₅ me.0.account.shares asked.count asked.write
     storing = subst (λ (z : Stage). FitsStage key.limit key.first s₅ me.0.account.shares
         (rule.ledger.owner 0) id z) stage (own_view asked.key t rule id me.0 at).stage
-
-    abbrev stood : Entry
-    stood = entry.Stood writer (key.first + asked.count + 1)
 
     abbrev stood_view : View
     stood_view = entered_view (entry.Stood asked.write.writer (asked.key.first + asked.count + 1))

@@ -1,16 +1,15 @@
 -- How the rule is put together again after a step of one seat.
-use Rattle.std.proofs.Common.{◌≡◌, ◌≢◌, ⊎_elim, ℕ, ◌+◌, ◌≤◌, Bool, true, List, [], ◌∷◌, set, map}
+use Rattle.std.proofs.Common.{◌≡◌, ◌≢◌, ⊎_elim, ℕ, ◌+◌, ◌≤◌, Bool, true, List, ◌∷◌, set}
 use Rattle.std.proofs.Common.{refl, sym, subst, ◌∙◌, Option}
 use Rattle.std.specs.List.{AllByRecursion}
 use mathlib.Core.Option.{some}
 use lib.ListN.{get_elem?}
 use Rattle.atomic_table.specs.Table as table
-use Rattle.histories.specs.declared.account.Share.{Share}
-use Rattle.histories.specs.Account.{has_number, share_after}
+use Rattle.histories.specs.Account.{has_number}
 use Rattle.histories.specs.Changes.{entered_account}
 use Rattle.histories.specs.History.{IsLegal, IsPast}
 use Rattle.histories.specs.Ledger.{IsOwned, FitsLedger, ledger_with}
-use Rattle.histories.proofs.ListLemmas.{at_set, all_map, all_weaker, past_cons}
+use Rattle.histories.proofs.ListLemmas.{at_set, all_weaker, past_cons}
 use Rattle.histories.proofs.SeatsKeep.{number_is_owned, entered_fits, knows_history, seats_stay}
 use Rattle.histories.proofs.SeatsKeep.{seats_enter}
 use Rattle.histories.proofs.AloneLemmas.{looks_at}
@@ -188,14 +187,3 @@ module _ (key : Key) (t : QueueTable) (rule : IsOneQueue key t) (id : ℕ) (befo
 
 -- the puts of a seat's numbers after an entry of it
 module _ (putting putting' : ℕ → Option ℕ) (due : ℕ → Option ℕ) (entry : Entry) where
-  -- what is so of the puts of a seat's numbers is so after an entry, which leaves it its numbers
-  pub puts_after : (shares : List (Share Entry)) →
-      AllByRecursion (λ share. putting' share.number ≡ due share.number) shares
-      → AllByRecursion (λ share. putting' share.number ≡
-      due share.number) (map (share_after seat_of entry) shares)
-  puts_after shares all =
-      all_map (λ (share : Share Entry). putting' share.number ≡
-      due share.number) (share_after seat_of entry) shares
-      (all_weaker (λ (share : Share Entry). putting' share.number ≡
-      due share.number) (λ share. putting' (share_after seat_of entry share).number ≡
-      due (share_after seat_of entry share).number) (λ share same. same) shares all)

@@ -1,5 +1,5 @@
 -- A seat between its steps: it has its number still, and is free again after an entry.
-use Rattle.std.proofs.Common.{◌≡◌, ℕ, ◌+◌, ◌<◌, true, [], ◌∷◌, sym, ap, subst, ◌∙◌}
+use Rattle.std.proofs.Common.{◌≡◌, ℕ, ◌+◌, ◌<◌, true, ◌∷◌, sym, ap, subst, ◌∙◌}
 use Rattle.histories.specs.declared.account.Account.{Account}
 use Rattle.histories.specs.Account.{has_number}
 use Rattle.histories.proofs.AccountLemmas.{has_number-share_after}
@@ -14,7 +14,6 @@ use Rattle.block_queue.specs.History.{seat_of}
 use Rattle.block_queue.specs.Meaning.{Enters}
 use Rattle.block_queue.specs.Seats.{Stepper, IsStepperOf, IsFreeStepperOf, IsSameStepper}
 use Rattle.block_queue.specs.Seats.{IsPutSeatOf, IsTakeSeatOf, head_view, put_view, take_view}
-use Rattle.block_queue.specs.Steps.{Seated}
 
 -- an entry leaves a seat its numbers
 pub entered_own : (key : Key) (made : Entry) (old new : Account Entry) (number : ℕ) →
@@ -72,19 +71,6 @@ steps_on queue old new number is same account =
 
 -- ---- a seat that sits down
 
--- a writer's seat that stands up to step is a free one, with its writer's number
-pub stands_put : (queue : Queue) (seat : PutSeat) (stepper : Stepper) → IsPutSeatOf queue seat →
-    stepper.table_id ≡ seat.badge.table_id → stepper.me ≡ (put_view seat, []) →
-    IsFreeStepperOf queue stepper (seat.writer + 1)
-stands_put queue seat stepper is table me =
-    record {
-      table = table ∙ is.table;
-      own = ap (λ (m : Seated). has_number m.0.account.shares (seat.writer + 1)) me ∙ is.own;
-      number_is = ap (λ (m : Seated). m.0.account.number) me ∙ is.number_is;
-      stage = ap (λ (m : Seated). m.0.stage) me ∙ is.stage;
-      no_slot = ap (λ (m : Seated). m.1) me;
-    }
-
 -- a free one with a writer's number sits down as that writer's seat
 pub sits_put : (queue : Queue) (seat : PutSeat) (stepper : Stepper) →
     seat.writer < queue.key.writers →
@@ -99,19 +85,6 @@ sits_put queue seat stepper writer free table views =
       own = ap (λ (v : View). has_number v.account.shares (seat.writer + 1)) view ∙ free.own;
       number_is = ap (λ (v : View). v.account.number) view ∙ free.number_is;
       stage = ap (λ (v : View). v.stage) view ∙ free.stage;
-    }
-
--- the reader's seat that stands up to step is a free one, with number 0
-pub stands_take : (queue : Queue) (seat : TakeSeat) (stepper : Stepper) → IsTakeSeatOf queue seat →
-    stepper.table_id ≡ seat.badge.table_id → stepper.me ≡ (take_view seat, []) →
-    IsFreeStepperOf queue stepper 0
-stands_take queue seat stepper is table me =
-    record {
-      table = table ∙ is.table;
-      own = ap (λ (m : Seated). has_number m.0.account.shares 0) me ∙ is.own;
-      number_is = ap (λ (m : Seated). m.0.account.number) me ∙ is.number_is;
-      stage = ap (λ (m : Seated). m.0.stage) me ∙ is.stage;
-      no_slot = ap (λ (m : Seated). m.1) me;
     }
 
 -- a free one with number 0 sits down as the reader's seat

@@ -1,5 +1,5 @@
 -- How a reader and writers go on, by what their ends' calls answer.
-use Rattle.std.proofs.Common.{◌≡◌, ◌≢◌, ◌⊎◌, ◌↔◌, inl, inr, ◌+◌, ◌++◌, ◌<◌, ℕ, suc, List, [], ◌∷◌}
+use Rattle.std.proofs.Common.{◌≡◌, ◌≢◌, ◌⊎◌, ◌↔◌, inl, inr, ◌+◌, ◌++◌, ◌<◌, ℕ, suc, List, ◌∷◌}
 use Rattle.std.proofs.Common.{length, map, refl, true, false}
 use Rattle.std.proofs.Common.{reverse, sym, ◌∙◌, ap, subst, arith, Some, None}
 use Rattle.std.proofs.Common.{◌≤◌, Bool}
@@ -312,41 +312,6 @@ module _ (old new : Reader)
             )) stops.told);
       }
 
--- and so does one that has seen the end
-pub stops_at_end : (reader : Reader) → reader.stopped ≡ None → SeesEnd reader → HasStopped reader
-stops_at_end reader none sees =
-    record {
-      ends = subst (λ (stopped : Option Fault). IfItsReader (EndsFor stopped) reader) (sym none)
-          sees.seen;
-    }
-
--- a reader that made no call has read on
-pub same_reader : (reader : Reader) → HasReadOn reader reader
-same_reader reader = record { end = record { queue = refl; row = refl }; keeps = λ kept. kept }
-
--- so has one that says anew why it stopped
-pub said_anew : (old new : Reader) (said : Option Fault) → HasReadOn old new
-    → HasReadOn old (record new { stopped = said })
-said_anew old new said on =
-    record {
-      end = on.end;
-      keeps = λ kept.
-          let keeps = on.keeps kept in
-          record { got = keeps.got; kernel = keeps.kernel; woken = keeps.woken };
-    }
-
--- whoever read on, and then read on again, has read on
-pub read_then : (old between new : Reader) → HasReadOn old between → HasReadOn between new
-    → HasReadOn old new
-read_then old between new first second =
-    record {
-      end = record {
-        queue = second.end.queue ∙ first.end.queue;
-        row = second.end.row ∙ first.end.row;
-      };
-      keeps = λ kept. second.keeps (first.keeps kept);
-    }
-
 -- a buffer of some bytes is not empty
 pub some_room : (xs : List ℕ) (count : ℕ) → length xs ≡ count → 0 < count → xs ≢ []
 some_room xs count many some none =
@@ -585,15 +550,6 @@ module _ (old new : Writer)
                   tells) told.told));
             };
       }
-
--- a writer that made no call has written on
-pub same_writer : (writer : Writer) → HasWrittenOn writer writer
-same_writer writer =
-    record {
-      end = record { queue = refl; row = refl; writer = refl };
-      messages = refl;
-      counts = λ counts. counts;
-    }
 
 -- so has one that tells no refusal
 pub tells_none : (writer : Writer) → HasWrittenOn writer (record writer { refused = None })

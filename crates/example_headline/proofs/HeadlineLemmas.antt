@@ -1,5 +1,5 @@
 -- What all ends of a crew come to.
-use Rattle.std.proofs.Common.{◌≡◌, ◌+◌, ◌++◌, ◌<◌, ℕ, zero, suc, List, [], ◌∷◌, length, map, refl}
+use Rattle.std.proofs.Common.{◌≡◌, ◌+◌, ◌++◌, ◌<◌, ℕ, zero, suc, List, ◌∷◌, length, map, refl}
 use Rattle.std.proofs.Common.{sym, true}
 use Rattle.std.proofs.Common.{◌∙◌, ap, subst, arith}
 use Rattle.std.specs.Prelude.{Option, Some, None, slice_index_or, take}
@@ -138,14 +138,6 @@ their_pieces pieces first (suc count) (writer ∷ writers) order all counts = (
       counts.0.just,
   their_pieces pieces (first + 1) count writers (ap others_of order) all.1 counts.1,
 )
-
--- the messages of one writer more are those that were next
-pub next_messages : (writers : List Writer) (writer : Writer) (left : List (List (List ℕ)))
-    → messages_of (writers ++ writer ∷ []) ++ left
-    ≡ messages_of writers ++ writer.messages.items ∷ left
-next_messages [] writer left = refl
-next_messages (other ∷ others) writer left =
-    ap (λ mss. other.messages.items ∷ mss) (next_messages others writer left)
 
 -- what is told of writers has their messages
 told_messages : (writers : List Writer)

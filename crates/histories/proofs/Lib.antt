@@ -1,7 +1,6 @@
 pub mod AccountLemmas
 pub mod AloneLemmas
 pub mod HistoryLemmas
-pub mod ImageLemmas
 pub mod ListLemmas
 pub mod SeatsKeep
 pub mod WorkedHistories

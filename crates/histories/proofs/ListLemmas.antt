@@ -1,14 +1,11 @@
 -- Facts on lists: what is true of each element, and lists of which one is a past of the other.
 use Rattle.std.proofs.Common.{◌≡◌, ◌≢◌, ◌⊎◌, inl, inr, ⊎_elim, ℕ, zero, suc, ◌≤◌}
-use Rattle.std.proofs.Common.{List, [], ◌∷◌, ◌++◌, length, map, set, refl, sym}
+use Rattle.std.proofs.Common.{List, ◌∷◌, ◌++◌, length, map, set, refl, sym}
 use mathlib.Core.Option.{some, some-injective, some-ne-none}
 use lib.ListN.{get_elem?}
 use Rattle.std.proofs.Common.{ap, subst, ◌∙◌, arith, append_assoc, append-nil, length-append}
-use Rattle.std.proofs.Common.{true, false, ◌||◌}
-use Rattle.std.specs.List.{filter, list_any, AllByRecursion}
-use Rattle.std.proofs.lemmas.List.{map-append}
-use Rattle.std.proofs.lemmas.List.Elements.{filter-append}
-use Rattle.std.specs.Prelude.{Bool}
+use Rattle.std.proofs.Common.{◌||◌}
+use Rattle.std.specs.List.{AllByRecursion}
 use Rattle.histories.specs.History.{IsPast}
 
 module _ {A : Type 0} where
@@ -85,18 +82,6 @@ module _ {A : Type 0} where
       let longer = past_append xs ys second.since first in
       record { since = longer.since; new_is = second.new_is ∙ longer.new_is }
 
-  -- a past is no longer than the whole
-  pub past_length : (old new : List A) → IsPast old new → length old ≤ length new
-  past_length old new past = omega (arith, simp length-append at (ap length past.new_is))
-
-  -- a past that is as long is the whole
-  pub past_equal : (old new : List A) → IsPast old new → length new ≤ length old → new ≡ old
-  past_equal old new past long = none past.since past.new_is
-    where
-      none : (since : List A) → new ≡ since ++ old → new ≡ old
-      none [] e = e
-      none (x ∷ since) e = absurd (omega (arith, simp length-append at (ap length e)))
-
   shorter_since : (xs ys s t : List A) → s ++ xs ≡ t ++ ys → length xs ≤ length ys → IsPast xs ys
   shorter_since xs ys s [] e shorter = record { since = s; new_is = sym e }
   shorter_since xs ys [] (y ∷ t) e shorter =
@@ -110,44 +95,11 @@ module _ {A : Type 0} where
   past_shorter xs ys zs first second shorter =
       shorter_since xs ys first.since second.since (sym first.new_is ∙ second.new_is) shorter
 
-  -- what passes a test in a past is a past of what passes it in the whole
-  pub past_filter : (test : A → Bool) (old new : List A) → IsPast old new →
-      IsPast (filter test old) (filter test new)
-  past_filter test old new past =
-      record {
-        since = filter test past.since;
-        new_is = ap (filter test) past.new_is ∙ filter-append test past.since old;
-      }
-
   -- what is true of each element of the whole is true of each of a past
   pub past_all : (P : A → Type 0) (old new : List A) → IsPast old new → AllByRecursion P new →
       AllByRecursion P old
   past_all P old new past all =
       all_past P past.since old (subst (AllByRecursion P) past.new_is all)
-
-  -- what stands in a past stands in the whole
-  pub past_any : (test : A → Bool) (old new : List A) → IsPast old new →
-      list_any test old ≡ true → list_any test new ≡ true
-  past_any test old new past has =
-      ap (list_any test) past.new_is ∙ still past.since
-    where
-      still : (since : List A) → list_any test (since ++ old) ≡ true
-      still [] = has
-      still (x ∷ since) = after (test x) (still since)
-        where
-          after : (b : Bool) → list_any test (since ++ old) ≡ true →
-              (b || list_any test (since ++ old)) ≡ true
-          after true rest = refl
-          after false rest = rest
-
-  -- the image of a past is a past of the image
-  pub past_map : {B : Type 0} (f : A → B) (old new : List A) → IsPast old new →
-      IsPast (map f old) (map f new)
-  past_map f old new past =
-      record {
-        since = map f past.since;
-        new_is = ap (map f) past.new_is ∙ map-append f past.since old;
-      }
 
   -- where a list with another in front is as it was, the other is empty
   pub nothing_before : (xs ys : List A) → xs ++ ys ≡ ys → xs ≡ []

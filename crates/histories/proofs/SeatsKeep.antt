@@ -1,7 +1,7 @@
 -- All seats still fit one history after each thing that may become of one of them:
 -- nothing, a look at the history, an entry, a split, a number handed over, a join.
 use Rattle.std.proofs.Common.{◌≡◌, ◌≢◌, ⊎_elim, ℕ, zero, suc, ◌+◌, ◌<◌, ◌≤◌, true}
-use Rattle.std.proofs.Common.{eqb, List, [], ◌∷◌, ◌++◌, length, map, set, refl, sym, ap, subst}
+use Rattle.std.proofs.Common.{eqb, List, ◌∷◌, ◌++◌, length, map, set, refl, sym, ap, subst}
 use Rattle.std.proofs.Common.{◌∙◌, arith, eq-eqb, ne_eqb}
 use Rattle.std.specs.List.{AllByRecursion, list_any}
 use mathlib.Core.Logic.{dite}
@@ -14,7 +14,7 @@ use Rattle.histories.specs.History.{Meaning, IsPast, entries_by, AreByBelow, IsL
 use Rattle.histories.specs.Account.{AreDifferent, HasItsEntries, KnowsHistory, numbers_in}
 use Rattle.histories.specs.Account.{has_number, has_given, share_after, spent_account, longer_of}
 use Rattle.histories.specs.Account.{unused_share, first_account, numbers_from}
-use Rattle.histories.specs.Changes.{looked_account, entered_account, parent_account, child_account}
+use Rattle.histories.specs.Changes.{entered_account, parent_account, child_account}
 use Rattle.histories.specs.Changes.{joined_account, keeping_account, handed_account}
 use Rattle.histories.specs.Ledger.{Ledger, IsOwned, FitsLedger, WasGiven, AreSeats, ledger_with}
 use Rattle.histories.specs.Ledger.{ledger_gave, ledger_joined, ledger_handed, opening_ledger}
@@ -75,20 +75,6 @@ module _ {Entry : Type 0} (by : Entry → ℕ) where
         owned = tt;
         different = tt;
         gave = tt;
-      }
-
-  -- a seat that looks at the whole history fits it
-  pub looked_fits : (ledger : Ledger Entry) (seat : ℕ) (account : Account Entry) →
-      FitsLedger by ledger seat account →
-      FitsLedger by ledger seat (looked_account ledger.history account)
-  looked_fits ledger seat account fits =
-      record {
-        seen = past_refl ledger.history;
-        mine_seen = fits.mine;
-        mine = fits.mine;
-        owned = fits.owned;
-        different = fits.different;
-        gave = fits.gave;
       }
 
   -- the seat that made the entry fits the longer history
@@ -217,18 +203,6 @@ module _ {View Entry : Type 0} (by : Entry → ℕ) (account_of : View → Accou
       seats_after ledger ledger views id before after seats at refl refl refl
       (ap (λ (a : Account Entry). a.gave) same) seats.by_given
       (subst (FitsLedger by ledger id) (sym same) (seats.each_seat id before at))
-      (λ seat view other there. seats.each_seat seat view there)
-
-  -- the seat has looked at the whole history
-  pub seats_look : (ledger : Ledger Entry) (views : List View) (id : ℕ) (before after : View) →
-      AreSeats by account_of ledger views → get_elem? views id ≡ some before →
-      account_of after ≡ looked_account ledger.history (account_of before) →
-      AreSeats by account_of ledger (set views id after)
-  seats_look ledger views id before after seats at is =
-      seats_after ledger ledger views id before after seats at refl refl refl
-      (ap (λ (a : Account Entry). a.gave) is) seats.by_given
-      (subst (FitsLedger by ledger id) (sym is)
-      (looked_fits by ledger id (account_of before) (seats.each_seat id before at)))
       (λ seat view other there. seats.each_seat seat view there)
 
   -- ---- an entry

@@ -1,6 +1,6 @@
 -- The changes of an account: an entry, a split, a number handed over, a join. First the account
 -- after each change, and then what a call says of it.
-use Rattle.std.specs.Prelude.{◌≡◌, ℕ, ◌<◌, List, [], ◌∷◌, ◌++◌, map, IsTrue}
+use Rattle.std.specs.Prelude.{◌≡◌, ℕ, ◌<◌, List, ◌∷◌, ◌++◌, map, IsTrue}
 use Rattle.std.specs.List.{AllByRecursion}
 use Rattle.histories.specs.declared.account.Account.{Account}
 use Rattle.histories.specs.declared.account.Share.{Share}
@@ -9,10 +9,6 @@ use Rattle.histories.specs.Account.{HasAllNumbers, HasItsEntries, AreByOthers, u
 use Rattle.histories.specs.Account.{has_number, share_after, longer_of}
 
 module _ {Entry : Type 0} where
-  -- the seat has looked at the whole history
-  abbrev pub looked_account : List Entry → Account Entry → Account Entry
-  looked_account history account = record account { seen = history }
-
   -- the seat gave this number
   abbrev pub parent_account : ℕ → Account Entry → Account Entry
   parent_account number account = record account { gave = number ∷ account.gave }

@@ -1,6 +1,5 @@
 pub mod Account
 pub mod Changes
 pub mod History
-pub mod Image
 pub mod Laws
 pub mod Ledger

@@ -1,5 +1,5 @@
 -- What the steps of a served request tell together.
-use Rattle.std.proofs.Common.{◌≡◌, ℕ, ◌<◌, true, List, [], ◌∷◌, refl, sym, ap, subst, ◌∙◌, arith}
+use Rattle.std.proofs.Common.{◌≡◌, ℕ, ◌<◌, true, List, ◌∷◌, refl, sym, ap, subst, ◌∙◌, arith}
 use Rattle.std.proofs.Common.{Option, Some, None}
 use Rattle.std.specs.Prelude.{IfSome, unwrap_or}
 use Rattle.atomic_table.specs.Table.{rest}
@@ -24,12 +24,6 @@ use Rattle.kernel_lock.specs.Steps.{HasReleased, HasEntered, HasTaken, HasServed
 use Rattle.kernel_lock.specs.Seats.{IsSeatOf, Applies, AppliesThen, served_by, view_of}
 use Rattle.kernel_lock.specs.View.{inside_view, outside_view}
 use Rattle.kernel_lock.proofs.ReleaseKeeps.{same_guarded}
-
--- a number that a request names is the seat's, or else its own is
-pub caller_is_own : {Call Reply : Type 0} (shares : List (Share (Operation Call Reply)))
-    (own : ℕ) (named : Option ℕ) → IfSome named (λ n. has_number shares n ≡ true) →
-    has_number shares own ≡ true → IfSome named (λ n. has_number shares n ≡ true)
-caller_is_own shares own named names has = names
 
 module _ {Object Call Reply : Type 0} where
   -- a seat has the numbers that it had

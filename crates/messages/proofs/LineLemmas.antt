@@ -1,30 +1,15 @@
 -- Lists of seats that join and leave.
 use Rattle.std.proofs.Common.{◌≡◌, ◌⊎◌, inl, inr, ℕ, suc, ◌+◌, ◌<◌, ◌≤◌, Bool, true, false}
-use Rattle.std.proofs.Common.{List, [], ◌∷◌, ◌++◌, length, cond, eqb, get_or, take, drop, refl, sym}
-use Rattle.std.proofs.Common.{ap, ◌∙◌, ◌||◌, nat_lt, arith, append_assoc}
+use Rattle.std.proofs.Common.{List, ◌∷◌, ◌++◌, length, cond, eqb, get_or, take, drop, refl, sym}
+use Rattle.std.proofs.Common.{ap, ◌∙◌, ◌||◌, nat_lt, arith}
 use Rattle.std.proofs.Common.{Option, None, Some}
 use Rattle.std.specs.List.{AllByRecursion, remove}
 use Rattle.std.specs.Option.{IsSome, OnSome}
 use Rattle.std.proofs.lemmas.Bool.Decides.{nat_tests}
-use Rattle.std.proofs.lemmas.Grind.{take_at_read}
 use Rattle.std.proofs.lemmas.List.{at_drop_more}
 use Rattle.messages.specs.Lines.{stands_in, without}
 
 -- ---- a search
-
--- what is left to search when one seat was passed over
-pub passed_over : (xs : List ℕ) (i seat d : ℕ) → i < length xs → eqb (get_or xs i d) seat ≡ false
-    → without seat xs ≡ take i xs ++ without seat (drop i xs)
-    → without seat xs ≡ take (i + 1) xs ++ without seat (drop (i + 1) xs)
-passed_over xs i seat d within other held =
-    let here = get_or xs i d in
-    let rest = drop (i + 1) xs in
-    let passed : without seat (drop i xs) ≡ here ∷ without seat rest =
-    at_drop_more (without seat) xs i d within
-    ∙ ap (λ b. cond b rest (here ∷ without seat rest)) other in
-    held ∙ ap (λ (l : List ℕ). take i xs ++ l) passed
-    ∙ sym (ap (λ (l : List ℕ). l ++ without seat rest) (take_at_read xs i d within).1
-    ∙ append_assoc (take i xs) (here ∷ []) (without seat rest))
 
 -- and when it was found
 pub found_there : (xs : List ℕ) (i seat d : ℕ) → i < length xs → eqb (get_or xs i d) seat ≡ true

@@ -1,4 +1,4 @@
--- What is shown of schedules of the core, and of who sleeps at their end: an example of each row.
+-- What is shown of a schedule, and of who sleeps at its end: an example of each row.
 use Rattle.std.proofs.Common.{◌≡◌, ◌++◌, ℕ, true, false, List, [], ◌∷◌, Option, Some, None}
 use Rattle.std.proofs.Common.{ap, arith, codes, refl}
 use Rattle.std.specs.Prelude.{slice_index}
@@ -9,9 +9,9 @@ use Rattle.sleep_core.specs.declared.answer.Answer.TheVariants as answer
 use Rattle.sleep_core.specs.declared.event.Event.{Event}
 use Rattle.sleep_core.specs.declared.event.Event.TheVariants as event
 use Rattle.searches.specs.declared.status.Status.TheVariants as status
-use Rattle.schedules.proofs.Worked.{sleep}
 use Rattle.calls.specs.declared.call.Call.TheVariants as call
 use Rattle.calls.specs.declared.ending.Ending.TheVariants as ending
+use Rattle.calls.specs.declared.line.Line.{Line}
 use Rattle.calls.specs.declared.process.Process.{Process}
 use Rattle.calls.specs.declared.process.Standing.{Standing}
 use Rattle.calls.specs.declared.process.Standing.TheVariants as standing
@@ -21,7 +21,6 @@ use Rattle.calls.specs.declared.process.Want.TheVariants as want
 use Rattle.calls.specs.declared.rendez.Stage.TheVariants as stage
 use Rattle.calls.specs.Position.{Position, after_of, opening_of}
 use Rattle.calls.specs.Program.{Program}
-use Rattle.explored_core.specs.CoreLines.{line_to}
 use Rattle.p9explore.specs.declared.call_answer.Showing.{Showing}
 use Rattle.p9explore.specs.declared.names.Kind.TheVariants as kind
 use Rattle.p9explore.specs.CallFoot.{ShowsBy, ShowsRefusal, ShowsWait, Telling, begins_sleep}
@@ -33,15 +32,25 @@ use Rattle.p9explore.specs.CallText.{chart_head, chart_of, front_text, if_core}
 use Rattle.p9explore.specs.CallText.{in_words}
 use Rattle.p9explore.specs.Names.{Named, object_at}
 use Rattle.p9explore.specs.Nevers.{played}
-use Rattle.p9explore.specs.ToldFoot.{parked_text, waits_text}
-use Rattle.p9explore.specs.ToldSteps.{run_text}
 
 -- ---- two processes that sleep in one Rendez, the second of which is refused
+
+-- a sleep in the only Rendez above this threshold, after which a process goes on there
+abbrev sleep_to : ℕ → ℕ → Line
+sleep_to threshold next =
+    record {
+      call = call.Sleep 0 threshold None;
+      next = next;
+      late = next;
+      other = next;
+      closed = next;
+      is_served = false;
+    }
 
 abbrev two_sleep : Program
 two_sleep =
     record {
-      lines = line_to (sleep 0 5) 2 ∷ line_to (sleep 0 7) 2 ∷ [];
+      lines = sleep_to 5 2 ∷ sleep_to 7 2 ∷ [];
       starts = 0 ∷ 1 ∷ [];
       values = [];
       pipes = [];
@@ -61,9 +70,6 @@ names =
     ∷ record { object = object_at kind.Process 1; word = codes "second" }
     ∷ record { object = object_at kind.Rendez 0; word = codes "here" }
     ∷ []
-
-abbrev asleep : Position
-asleep = played two_sleep (opening_of two_sleep) (0 ∷ 1 ∷ 0 ∷ [])
 
 -- the lines of two events, by numbers
 abbrev post_line : ℕ → ℕ → List ℕ
@@ -146,14 +152,6 @@ all_of_them = (
   ),
 )
 
--- the events of a run stand in their order, though its newest entry comes first
-a_run_is_told : run_text (as_line [] two_sleep)
-    (record { maker = 0; event = event.Test (pid_of 0); answer = answer.Asleep }
-    ∷ record { maker = 0; event = post_of 0 5; answer = answer.Posted }
-    ∷ [])
-    ≡ post_line 0 5 ++ test_line 0
-a_run_is_told = refl
-
 -- ---- sleeps that are refused
 
 it_refuses_the_second : refuses
@@ -234,7 +232,7 @@ while_it_is_set = refl
 abbrev waits_so : Telling → List ℕ → Type 0
 waits_so how =
     ShowsWait how 1 (process_with (standing.Waits (want.Unit 0) 0) timer.Unset)
-    (Some (line_to (sleep 0 5) 2))
+    (Some (sleep_to 5 2))
 
 in_words_its_line_begins_with_it :
     waits_so (telling names true false) (codes "second waits for a unit\n")
@@ -254,18 +252,6 @@ who_can_go_on_has_no_line = refl
 
 who_is_parked_waits : ¬ (ShowsBy status.Parked ⊥ [])
 who_is_parked_waits none = none
-
--- the first sleeps, and the second has made its call
-who_sleeps_there : waits_text (telling names true true) two_sleep asleep 2
-    ≡ sleeper_text (telling names true true) 0 (call.Sleep 0 5 None) ++ []
-who_sleeps_there = refl
-
-who_is_ready_does_not_sleep :
-    parked_text (telling [] false true) 0 status.Ready (Some (line_to (sleep 0 5) 2)) ≡ []
-who_is_ready_does_not_sleep = refl
-
-nor_who_has_no_line : parked_text (telling [] false true) 0 status.Parked None ≡ []
-nor_who_has_no_line = refl
 
 -- ---- all of it
 

@@ -61,14 +61,22 @@ spaced devices members =
     if not (has_device devices) && has_room devices members
     then Some (with_space devices members) else None
 
+-- the seats of a semaphore that are told
+abbrev pub told_seats : Option ℕ → ℕ
+told_seats None = 0
+told_seats (Some seats) = seats
+
 -- with one semaphore more
 abbrev pub with_sema : Devices → SemaSize → Devices
 with_sema devices size =
-    record devices { semas = devices.semas ++ size ∷ []; taken = devices.taken + size.seats }
+    record devices {
+      semas = devices.semas ++ size ∷ [];
+      taken = devices.taken + told_seats size.seats;
+    }
 
 abbrev pub declared : Devices → SemaSize → Option Devices
 declared devices size =
-    if has_room devices size.seats then Some (with_sema devices size) else None
+    if has_room devices (told_seats size.seats) then Some (with_sema devices size) else None
 
 -- with one direction of a pipe more: an end to read it, and for each process one to write
 abbrev pub ends_in : Devices → ℕ
@@ -93,10 +101,15 @@ clocked devices =
 
 -- ---- what can be made at all
 
--- whether a process has a seat at this semaphore, if it is there: process p has seat p
+-- whether a process has a seat at this semaphore, if it is there: process p has seat p, and where
+-- no seats are told each has one
+abbrev pub is_within : ℕ → Option ℕ → Bool
+is_within pid None = true
+is_within pid (Some seats) = nat_lt pid seats
+
 abbrev pub is_seated : ℕ → Option SemaSize → Bool
 is_seated pid None = false
-is_seated pid (Some size) = nat_lt pid size.seats
+is_seated pid (Some size) = is_within pid size.seats
 
 abbrev pub has_seat : Devices → ℕ → ℕ → Bool
 has_seat devices pid sema = is_seated pid (slice_get devices.semas sema)

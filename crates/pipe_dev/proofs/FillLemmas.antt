@@ -1,6 +1,6 @@
 -- How a read fills its buffer, one part after the other.
 use Rattle.std.proofs.Common.{◌≡◌, ◌≢◌, ◌⊎◌, inl, inr, ℕ, suc, ◌+◌, ◌-◌, ◌*◌, ◌<◌, ◌≤◌, Bool, true}
-use Rattle.std.proofs.Common.{false, nat_lt, List, [], ◌∷◌, ◌++◌, length, take, drop, Option, None}
+use Rattle.std.proofs.Common.{false, nat_lt, List, ◌∷◌, ◌++◌, length, take, drop, Option, None}
 use Rattle.std.proofs.Common.{Some, refl, sym, ◌∙◌, ap, subst, arith, length-append, length-drop}
 use Rattle.std.proofs.Common.{drop-drop}
 use borrow.Rule.Slice.PartMut.{mid_of, put_mid, put_same, same_len_mid}
@@ -32,7 +32,7 @@ use Rattle.pipe_dev.specs.Finishing.{left_state}
 use Rattle.pipe_dev.specs.Parts.{Part, part_of, rest_of, bytes_of}
 use Rattle.pipe_dev.specs.Rounds.{Rounds}
 use Rattle.pipe_dev.proofs.ReadingLemmas.{since_accepts}
-use Rattle.pipe_dev.proofs.RoundLemmas.{entered_right, has_room}
+use Rattle.pipe_dev.proofs.RoundLemmas.{entered_right}
 
 -- ---- one part
 
@@ -89,28 +89,6 @@ pub record SoFar (key : Key) (mode : Mode) (first now : Lending) (took : Option 
   -- it has just begun; or it has a part, and if it goes on nothing is left of a write
   pub rest_none : (filling ≡ begins first.taker)
       ⊎ ((has_none filling.parts ≡ false) × (further ≡ true → now.taker.rest ≡ None))
-
--- it has begun
-pub begun_so_far : (key : Key) (mode : Mode) (first : Lending) → first.buffer ≢ []
-    → SoFar key mode first first None 0 true
-begun_so_far key mode first some =
-    record {
-      times = 0;
-      filling = begins first.taker;
-      taken = refl;
-      taker_is = refl;
-      took_is = refl;
-      filled = record { count_is = refl; bytes_are = refl };
-      size = refl;
-      fits = omega arith;
-      further_is = by mode;
-      rest_none = inl refl;
-    }
-  where
-    by : (m : Mode) → true
-        ≡ goes_further (record { mode = m; room = length first.buffer }) []
-    by Message = refl
-    by Stream = let room = has_room first.buffer some in grind (arith, nat_tests)
 
 last_more : (begun : Option Part) (part : Part) (parts : List Part) → has_none parts ≡ false
     → last_number begun (part ∷ parts) ≡ Some (part.place + 1)

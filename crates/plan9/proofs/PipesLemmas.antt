@@ -1,29 +1,19 @@
 -- What is known of pipes while they are made one after the other, and while their ends are lent.
-use Rattle.std.proofs.Common.{◌≡◌, ◌≤◌, ◌<◌, ◌+◌, ◌*◌, ◌++◌, ℕ, zero, suc, List, [], ◌∷◌, length}
+use Rattle.std.proofs.Common.{◌≡◌, ◌≤◌, ◌<◌, ◌+◌, ◌*◌, ◌++◌, ℕ, zero, suc, List, ◌∷◌, length}
 use Rattle.std.proofs.Common.{drop, ap, sym, subst, arith, length-append, ◌∙◌}
-use Rattle.std.proofs.Math.Nat.{suc-mul, mul-le-mul_right}
+use Rattle.std.proofs.Math.Nat.{suc-mul}
 use Rattle.std.proofs.Math.ListN.{get_or}
 use Rattle.std.proofs.lemmas.List.{append-nil, append_assoc}
 use Rattle.rendez_words.specs.declared.words.Words.{Words}
-use Rattle.sleep_wakeup.specs.Kernel.{Unused, HasRendez, rendez_less}
+use Rattle.sleep_wakeup.specs.Kernel.{Unused, rendez_less}
 use Rattle.pipe_dev.specs.declared.end.Ends.{Ends}
 use Rattle.pipe_dev.specs.declared.pipe.Pipe.{Pipe}
 use Rattle.pipe_dev.specs.declared.pipe.PipeStart.{PipeStart}
 use Rattle.pipe_dev.specs.Openings.{IsStartOf, rendez_for}
 use Rattle.plan9.specs.Pipes.{Size, IsNewPipe, AreNewFrom, StartEach, AreEndsOf, AreAllEnds}
-use Rattle.plan9.specs.Pipes.{MayOpen, rendez_for_all}
+use Rattle.plan9.specs.Pipes.{rendez_for_all}
 
 -- ---- made
-
--- Rendez are left for one more, as long as fewer were made than were asked for
-pub one_more_left : (count made : ℕ) (size : Size) (before : Unused) → MayOpen count size before
-    → made < count
-    → HasRendez (rendez_less (rendez_for_all made size) before) (rendez_for size.writers)
-one_more_left count made size before may below =
-    let each = rendez_for size.writers in
-    let most : suc made * each ≤ count * each = mul-le-mul_right each below in
-    let rendez = may.rendez in
-    omega (arith, most, suc-mul made each, rendez)
 
 -- and those of one more are used up
 pub one_more_used : (made : ℕ) (size : Size) (before : Unused)

@@ -15,7 +15,7 @@ use Rattle.rendez_words.specs.declared.view.Sizes.{Sizes}
 use Rattle.rendez_words.specs.declared.words.Words.{Words}
 use Rattle.rendez_words.specs.Plays.{part_of, part_after, HasMade}
 use Rattle.rendez_words.specs.Process.{Process, made, phase_in}
-use Rattle.rendez_words.specs.Words.{IsProcessOf, sizes_of, procs_of, rendez_of}
+use Rattle.rendez_words.specs.Words.{IsProcessOf, procs_of, rendez_of}
 
 -- a process is its words, its number and its steps
 process_is : (process : Process) (table : TableId) (part : Part) → process.table ≡ table
@@ -51,18 +51,6 @@ made_is sizes event before found after told table has is worth =
             answer = told;
           } ∷ before.trace else before.trace;
     }) worth
-
--- a process belongs to its words still
-pub belongs_still : (words : Words) (event : Event) (before : Process) (found : ℕ) (after : Process)
-    → IsProcessOf words before → after.table ≡ before.table
-    → HasMade (sizes_of words) event (part_of before) found (part_of after)
-    → IsProcessOf words after
-belongs_still words event before found after is table has =
-    record {
-      table = table ∙ is.table;
-      pid = subst (λ (part : Part). part.pid < procs_of words) (sym has.after_is) is.pid;
-      run = has.run;
-    }
 
 -- the phase of a process names what is there
 pub phase_there : (words : Words) (process : Process) → IsProcessOf words process

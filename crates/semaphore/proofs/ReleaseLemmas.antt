@@ -1,13 +1,11 @@
 -- A release that asks in the same hold of the lock who is to be woken: what the lock tells of both
 -- requests they tell of the semaphore.
-use Rattle.std.proofs.Common.{rules, ◌≡◌, ℕ, Bool, false, List, [], ◌∷◌, map, Option, Some, None}
-use Rattle.std.proofs.Common.{refl, sym, subst, eq-eqb}
+use Rattle.std.proofs.Common.{rules, ◌≡◌, ℕ, Bool, false, List, ◌∷◌, Option, Some, None}
+use Rattle.std.proofs.Common.{refl, sym, subst}
 use Rattle.histories.specs.declared.account.Account.{Account}
-use Rattle.histories.specs.Account.{share_after}
 use Rattle.histories.specs.History.{IsPast}
 use Rattle.histories.proofs.ListLemmas.{past_cons}
 use Rattle.kernel_lock.specs.Calls.{Serves}
-use Rattle.kernel_lock.specs.Definition.{server}
 use Rattle.kernel_lock.specs.Seats.{IsSeatOf, SeesHistory, Applies, AppliesThen, number_of}
 use Rattle.kernel_lock.specs.Seats.{seen_of, view_of}
 use Rattle.semaphore.specs.declared.sema.Sema.{Sema}
@@ -27,16 +25,6 @@ use Rattle.sleep_wakeup.specs.Actions.{WakesOne}
 use Rattle.sleep_wakeup.specs.Kernel.{Running}
 use Rattle.waiting.specs.Waiting.{Point, point}
 use Rattle.semaphore.proofs.AskLemmas.{is_told}
-
--- a seat that made a request under its own number has that request after those that it had made
-has_made : (number : ℕ) (mine : List SemaEntry) (call : SemaCall) (answer : SemaReply)
-    → map (share_after server (record { by = number; request = call; reply = answer }))
-    (record { number = number; mine = mine } ∷ [])
-    ≡ record {
-      number = number;
-      mine = record { by = number; request = call; reply = answer } ∷ mine;
-    } ∷ []
-has_made number mine call answer = rw (eq-eqb number number refl) refl
 
 -- a request that names no seat and that no wait hangs on, as the lock tells of it
 pub finds : (sema : Sema) (call : SemaCall) (answer : SemaReply) (old new : SemaSeat)

@@ -1,18 +1,17 @@
 -- Reads that go on from write to write: the bytes that they join, and how far they come.
 use Rattle.std.proofs.Common.{◌≡◌, ◌≢◌, ◌==◌, ℕ, suc, zero, min, nat_lt, cond, ◌+◌, ◌-◌, ◌<◌, ◌≤◌}
-use Rattle.std.proofs.Common.{List, [], ◌∷◌, ◌++◌, length, take, drop, get_or, Bool, true, false}
-use Rattle.std.proofs.Common.{Option, None, Some, refl, ◌∙◌, sym, ap, subst, arith, length-drop}
+use Rattle.std.proofs.Common.{List, ◌∷◌, ◌++◌, length, take, drop, get_or, Bool, true, false}
+use Rattle.std.proofs.Common.{refl, ◌∙◌, sym, ap, subst, arith, length-drop}
 use Rattle.std.proofs.Common.{length-append, drop-drop}
-use Rattle.std.proofs.lemmas.List.{take_all, drop_more, drop-append-le, append_assoc, append-nil}
-use Rattle.std.proofs.lemmas.List.{drop_all, nil_from_length, length-take, drop_at}
+use Rattle.std.proofs.lemmas.List.{drop_more, drop-append-le, append_assoc}
+use Rattle.std.proofs.lemmas.List.{nil_from_length, length-take, drop_at}
 use Rattle.std.proofs.lemmas.Bool.Decides.{nat_tests}
-use Rattle.sync_base.specs.declared.mode.Mode.{Mode}
-use Rattle.sync_base.specs.declared.mode.Mode.TheVariants.{Message, Stream}
+use Rattle.sync_base.specs.declared.mode.Mode.TheVariants.{Stream}
 use Rattle.sync_base.specs.Write.{Write}
 use Rattle.sync_base.specs.Pipe.{PipeState, Reach, reach_of, and_one, stops_at, joined, by_mode}
-use Rattle.sync_base.specs.Pipe.{after_read, after_message, after_stream, after_reach, unread_bytes}
+use Rattle.sync_base.specs.Pipe.{after_read, after_message, after_stream, after_reach}
 use Rattle.sync_base.specs.Pipe.{unread_writes}
-use Rattle.sync_base.specs.PlainPipe.{Contents, Shows, kept_bytes, kept_after, first_bytes}
+use Rattle.sync_base.specs.PlainPipe.{Contents, Shows, kept_after, first_bytes}
 
 -- no bytes have no front
 pub take_none : (n : ℕ) (bytes : List ℕ) → bytes ≡ [] → take n bytes ≡ []
@@ -74,58 +73,10 @@ joins_more room room' whole part writes at offset left write within is begun par
     ∙ (sym (take_split left rest following) ∙ ap (take left) (sym bytes))))
     ∙ so_far))
 
--- and no write is left
-pub joined_all : (room whole : List ℕ) (writes : List Write) (at offset left : ℕ)
-    → length writes ≤ at
-    → room ++ take left (drop offset (joined (drop at writes))) ≡ whole → room ≡ whole
-joined_all room whole writes at offset left past so_far =
-    let none : joined (drop at writes) ≡ [] = ap joined (drop_all at writes past) in
-    sym (append-nil room)
-    ∙ (ap (λ l. room ++ l)
-    (sym (take_none left _ (drop_none offset (joined (drop at writes)) none))) ∙ so_far)
-
--- or no room
-pub joined_full : (room whole rest : List ℕ) (left : ℕ) → left ≡ 0
-    → room ++ take left rest ≡ whole → room ≡ whole
-joined_full room whole rest left full so_far =
-    sym (append-nil room) ∙ (ap (λ k. room ++ take k rest) (sym full) ∙ so_far)
-
--- a part that was not joined for want of memory has a byte, so that a byte was to be read
-pub joined_some : (old room part more whole : List ℕ) → length old ≤ length room
-    → part ≢ [] → room ++ (part ++ more) ≡ old ++ whole → whole ≢ []
-joined_some old room part more whole longer some so_far none =
-    let here : length room + (length part + length more) ≡ length old + length whole =
-    ap (λ k. length room + k) (sym (length-append part more))
-    ∙ (sym (length-append room (part ++ more))
-    ∙ (ap length so_far ∙ length-append old whole)) in
-    let empty : length whole ≡ 0 = ap length none in
-    some (nil_from_length part (omega (arith, here, empty)))
-
--- the reach of a read through these writes, by the first of them
-reach_first : (most offset : ℕ) (writes : List Write) (first : Write) → 0 < length writes
-    → first ≡ get_or writes 0 first
-    → reach_of most offset writes ≡ reach_of most offset (first ∷ drop 1 writes)
-reach_first most offset writes first some is =
-    ap (reach_of most offset) (drop_more writes 0 first some)
-    ∙ ap (λ w. reach_of most offset (w ∷ drop 1 writes)) (sym is)
-
 -- a read that has no room left stays
 reach_full : (offset : ℕ) (writes : List Write) → reach_of 0 offset writes ≡ stops_at offset
 reach_full offset [] = refl
 reach_full offset (write ∷ writes) = refl
-
--- a write that has more than it takes ends a read
-reach_in : (most offset : ℕ) (write : Write) (writes : List Write) → 0 < most
-    → most < length write.bytes - offset
-    → reach_of most offset (write ∷ writes) ≡ stops_at (offset + most)
-reach_in most offset write writes some more = grind (arith, nat_tests)
-
--- a write that is used up is read whole, and the read goes on
-reach_on : (most offset : ℕ) (write : Write) (writes : List Write) → 0 < most
-    → length write.bytes - offset ≤ most
-    → reach_of most offset (write ∷ writes)
-    ≡ and_one (reach_of (most - (length write.bytes - offset)) 0 writes)
-reach_on most offset write writes some used_up = grind (arith, nat_tests)
 
 -- what is kept after a read that has no room
 pub keeps_all : (kept : Contents) (most : ℕ) → most ≡ 0
@@ -133,38 +84,6 @@ pub keeps_all : (kept : Contents) (most : ℕ) → most ≡ 0
 keeps_all kept most none =
     ap (λ m. kept_after kept (reach_of m kept.offset kept.unread)) none
     ∙ ap (kept_after kept) (reach_full kept.offset kept.unread)
-
--- after a read that finds no write
-pub keeps_none : (kept : Contents) (most : ℕ) → length kept.unread ≡ 0
-    → kept_after kept (reach_of most kept.offset kept.unread) ≡ kept
-keeps_none kept most none =
-    ap (λ writes. kept_after kept (reach_of most kept.offset writes)) (nil_from_length _ none)
-
--- after a read that ends in the first write
-pub keeps_first : (kept : Contents) (most : ℕ) (first : Write) → 0 < most → 0 < length kept.unread
-    → first ≡ get_or kept.unread 0 first → most < length first.bytes - kept.offset
-    → kept_after kept (reach_of most kept.offset kept.unread)
-    ≡ record kept { offset = kept.offset + most }
-keeps_first kept most first room some is more =
-    ap (kept_after kept)
-    (reach_first most kept.offset kept.unread first some is
-    ∙ reach_in most kept.offset first (drop 1 kept.unread) room more)
-
--- after a read that goes on after the first write
-pub keeps_after : (kept : Contents) (most : ℕ) (first : Write) → 0 < most → 0 < length kept.unread
-    → first ≡ get_or kept.unread 0 first → length first.bytes - kept.offset ≤ most
-    → kept_after kept (reach_of most kept.offset kept.unread)
-    ≡ kept_after (record kept { unread = drop 1 kept.unread; offset = 0 })
-    (reach_of (most - (length first.bytes - kept.offset)) 0 (drop 1 kept.unread))
-keeps_after kept most first room some is used_up =
-    let further = reach_of (most - (length first.bytes - kept.offset)) 0 (drop 1 kept.unread) in
-    let one_more : 1 + further.whole ≡ further.whole + 1 = omega arith in
-    ap (kept_after kept)
-    (reach_first most kept.offset kept.unread first some is
-    ∙ reach_on most kept.offset first (drop 1 kept.unread) room used_up)
-    ∙ ap (λ writes. record kept { unread = writes; offset = further.offset })
-    (ap (λ k. drop k kept.unread) (sym one_more)
-    ∙ sym (drop-drop further.whole 1 kept.unread))
 
 -- a reach through some writes, by what is next
 reach_cases : (P : Reach → Type 0) (most offset : ℕ) (write : Write) (writes : List Write)

@@ -1,3 +1,0 @@
-pub mod ObjectCalls
-pub mod ObjectEnds
-pub mod OwnCalls

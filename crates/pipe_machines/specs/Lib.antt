@@ -1,9 +1,0 @@
-pub mod BlockMachine
-pub mod HangMachine
-pub mod ReadMachine
-pub mod Requests
-pub mod Tries
-pub mod WriteMachine
-pub mod LongMachine
-pub mod PipeEnds
-pub mod PipeRuns

@@ -1,4 +1,0 @@
-pub mod CallMachines
-pub mod Holds
-pub mod SemaEnds
-pub mod SemaRuns

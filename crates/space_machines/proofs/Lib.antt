@@ -1,9 +1,0 @@
-pub mod DueLemmas
-pub mod MeetLemmas
-pub mod MoveLemmas
-pub mod PlaceLemmas
-pub mod RequestLemmas
-pub mod SameWaitLemmas
-pub mod TableLemmas
-pub mod WorkedMachines
-pub mod WorkedRuns

@@ -1,3 +1,0 @@
-pub mod MeetMachine
-pub mod SpaceEnds
-pub mod SpaceRuns

@@ -1,4 +1,0 @@
-pub mod NotesKept
-pub mod TimedCalls
-pub mod TimedEnds
-pub mod TimedObjects
