@@ -1,7 +1,6 @@
 """Mistakes that the prover refuses. Those of a crate that edit different functions are planted at once in a copy of it, and the
 prover checks these functions and what they call: each has to be refused in its own function. One that edits what is no body of a
-function is tried alone, on the whole crate. One that edits a crate below is proved there first, and then the crate above is tried over
-that.
+function is tried alone, on the whole crate.
 """
 import os
 import re
@@ -10,11 +9,11 @@ import subprocess
 import tempfile
 import time
 
-from common import TOP, read, stop, write
+from common import TOP, stop
 from goals import NONE, goal_of, law_of, lines_of, why_nothing
 from planted import Unfit, batch_of
 from prover import Refused, prover_of
-from copies import crates_below, link
+from copies import link
 
 # What a try of one comes to.
 REFUSED, NOT_REFUSED, NOTHING, LATER = "refused", "NOT REFUSED", "CAN'T BE TRIED", "later"
@@ -42,7 +41,7 @@ class Room:
     """A copy of a crate, in which mistakes are planted and checked."""
 
     def __init__(self, crate, folder, has_kept):
-        self.crate, self.folder, self.has_kept, self.below = crate, folder, has_kept, {}
+        self.crate, self.folder = crate, folder
         for part in ("src", "specs", "proofs"):
             if os.path.isdir(f"{TOP}/crates/{crate}/{part}"):
                 shutil.copytree(f"{TOP}/crates/{crate}/{part}", f"{folder}/{part}")
@@ -75,14 +74,10 @@ class Room:
 
     def alone(self, mistake):
         """Tries a mistake on the whole crate."""
-        words = self.words
         try:
-            texts = mistake.planted({})
-            status, said = self.check(self.over(mistake.below, texts) if mistake.below else texts, [])
+            status, said = self.check(mistake.planted({}), [])
         except Unfit as why:
             return NOTHING, None, str(why)
-        finally:
-            self.words = words
         if status == 0:
             return NOT_REFUSED, None, "the crate is still proved with it"
         told = [it for it in said.splitlines() if re.match(r"(note: )?\S+:\d+:\d+:", it)]
@@ -92,19 +87,6 @@ class Room:
             return NOTHING, None, told
         why = why_nothing([told])
         return (NOTHING, None, f"{why}: {told}") if why else (REFUSED, law_of(told), told)
-
-    def over(self, name, texts):
-        """Builds the crate of this name below with these texts. The next check is over that, with no text of this crate changed."""
-        between = [it for it in crates_below()[self.crate] if name in crates_below()[it]]
-        if between:
-            raise Unfit(f"{', '.join(between)} stand between {self.crate} and {name}")
-        if name not in self.below:
-            self.below[name] = RoomBelow(name, f"{self.folder}/{name}", self.has_kept)
-        status, said = self.below[name].check({path.removeprefix(f"../{name}/"): text for path, text in texts.items()}, [])
-        if status:
-            raise Unfit(f"{name} itself is not proved with it: {next((it for it in said.splitlines() if ': error' in it), said[-200:])[:200]}")
-        self.words = [it.replace(f"{TOP}/crates/{name}/out/rlib", self.below[name].folder) for it in self.words]
-        return {}
 
     def try_all(self, mistakes):
         """Each mistake with what it came to, the refused ones of a batch before those that call them."""
@@ -121,21 +103,6 @@ class Room:
             else:
                 yield from ((it, *self.at_once([it], it.planted({}))[it]) for it in put_off)
         yield from ((it, *self.alone(it)) for it in left)
-
-
-class RoomBelow(Room):
-    """A copy of a crate whose definitions are made wrong, and whose library is built with them. Its examples are left out, which are
-    of the definitions as they are to be.
-    """
-
-    def __init__(self, crate, folder, has_kept):
-        super().__init__(crate, folder, has_kept)
-        examples = [it for it in os.listdir(f"{folder}/proofs") if it.startswith("Worked")]
-        for it in examples:
-            os.remove(f"{folder}/proofs/{it}")
-        listed = [it for it in read(f"{folder}/proofs/Lib.antt").splitlines(True) if f"{it.split()[-1]}.antt" not in examples]
-        write(f"{folder}/proofs/Lib.antt", "".join(listed))
-        self.words = [self.words[0], "build", *self.words[2:], "-o", f"{folder}/{crate}.rlib"]
 
 
 def check_first(crate):

@@ -8,8 +8,6 @@ A file is lines, each text on one of its own:
   and: TEXT                  the next line of the text above it
   file: PATH                 below proofs/, with pairs of its own: mends an answer that names what the wrong body no longer has, so
                              that the prover refuses the mistake where its clause is false, not for a name
-  file: ../NAME/PATH         each file of it is one of this crate, which stands below: the definitions there are wrong, and the code and
-                             the proofs with them, so that only the crate whose mistake it is refuses it
   refused by: type WORDS     the compiler refuses it, with these words, before any proof
   refused by: test NAME      this test fails, of the crate or of one of tests_*
   refused by: scene NAME     this scene of scenes/ is answered otherwise
@@ -82,8 +80,6 @@ class Mistake:
             raise Unfit("no file, or no pair of old and new")
         if (self.refuser == PROVER) == bool(self.words):
             raise Unfit("`refused by: prover` stands alone, and the other refusers are named")
-        if self.below and not all(it.startswith(f"../{self.below}/") for it in self.paths):
-            raise Unfit(f"it edits files of {self.below}, and others too")
         for path, old, new in self.pairs:
             text = texts.get(path) or text_of(self.crate, path)
             if text.count(old) != 1:
@@ -95,11 +91,6 @@ class Mistake:
     def path(self):
         """The file that it edits first."""
         return self.paths[0] if self.paths else ""
-
-    @property
-    def below(self):
-        """The crate below its own that it edits, if it edits one."""
-        return self.path.split("/")[1] if self.path.startswith("../") else None
 
     @functools.cached_property
     def functions(self):

@@ -1,7 +1,7 @@
 """A script with blocks, comments, and like processes that are declared by one line."""
 from explored.blocks import BlockProgram, Either, Loop, Repeat
 from explored.comments import lines_said
-from explored.program import NAMED, NAMES, place_of_name
+from explored.program import NAMED, NAMES, place_of_name, with_seats
 
 # The lines among calls in which `me`, `next` and `prev` are words as others.
 NO_CALLS = ("on", "go", "never", "loop", "repeat", "either", "or", "end")
@@ -86,7 +86,8 @@ def block_program_of(script):
     lines = one_by_one(lines)
     names, bodies = names_of(lines), [[] for _ in range(int(first[1]))]
     start = next(at for at, words in enumerate(lines) if words[0] == "process")
-    devices, left = [numbered(words, names) for words in lines[:start]], lines[:start - 1:-1] if start else lines[::-1]
+    devices = [with_seats(numbered(words, names), len(bodies)) for words in lines[:start]]
+    left = lines[:start - 1:-1] if start else lines[::-1]
     while left:
         pid = numbered(left.pop(), names)[1]
         bodies[pid] += read_block(left, names)[0]

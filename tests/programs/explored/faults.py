@@ -10,7 +10,7 @@ from explored.program import (
 NO_BYTES = ["616", "4", "6g", "0x61", "61-", "--", "", "61 61", "00" * (ATOMIC_SIZE + 1)]
 NO_WORLD = ["world 0 1", "world 1025 1", "world 1 0", "world 1 8193", "world 1", "world 1 1 1", "World 1 1", "world 01 1",
             "world +1 1", "world 1 1\r", "drain"]
-NO_DEVICE = ["space 0", "space 1025", "space 1 1", "space", "sema 2147483648 1", "sema 0 0", "sema 0 1025", "sema 1",
+NO_DEVICE = ["space 0", "space 1025", "space 1 1", "space", "sema 2147483648 1", "sema 0 0", "sema 0 1025", "sema",
              "sema 1 1 1", "pipe 0", "pipe 1025", "pipe 1 Stream", "pipe 1 stream stream", "pipe", "sema 1 8192", "world 1 1",
              "drain", "sleep 0 0", "on end end", "end:", "clock 1", "clock 0", "clock hall", "Clock", "clock ", " clock", "clocks",
              "tick 0", "ticks 0", "sleep_within 0 0 0 0"]

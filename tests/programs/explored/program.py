@@ -104,6 +104,9 @@ class Program:
         counts = {}
         for verb, *words in self.devices:
             counts[verb] = counts.get(verb, -1) + 1
+            if verb == "sema" and words[1] == len(self.calls) and counts[verb] % 2 == 0:
+                # a seat for each process, which needn't be told
+                words = words[:1]
             yield " ".join([verb, *([self.say(verb, counts[verb])] if verb in self.names else []), *map(str, words)])
         for pid, calls in enumerate(self.calls):
             repeats, done = self.repeats.get(pid, []), 0
@@ -204,6 +207,11 @@ def written_out(lines):
     return [list(words) for words in out]
 
 
+def with_seats(words, procs):
+    """The words of a line; where a semaphore has no number of seats, it has one for each process."""
+    return (*words, procs) if words[0] == "sema" and len(words) == 2 else words
+
+
 def program_of(script):
     """The program of a script that has no fault."""
     first, *lines = lines_said(script)
@@ -226,7 +234,7 @@ def program_of(script):
             words[place] = names[NAMED[verb]].index(words[place])
             words = words[1:] if verb in ("space", "sema", "pipe") else words
         texts = {"note": 1, "write": 1, "pipe": 1, "write_within": 3}.get(verb, len(words))
-        words = (verb, *map(int, words[:texts]), *words[texts:])
+        words = with_seats((verb, *map(int, words[:texts]), *words[texts:]), len(calls))
         if verb == "process":
             pid = words[1]
         else:
