@@ -1,5 +1,5 @@
 -- What the takes come to by which a reader with all numbers empties its queue.
-use Rattle.std.proofs.Common.{◌≡◌, ◌≢◌, ⊎_elim, length-append, ℕ, ◌+◌, ◌-◌, ◌<◌, ◌≤◌, List, ◌∷◌}
+use Rattle.std.proofs.Common.{[], ◌≡◌, ◌≢◌, ⊎_elim, length-append, ℕ, ◌+◌, ◌-◌, ◌<◌, ◌≤◌, List, ◌∷◌}
 use Rattle.std.proofs.Common.{◌++◌, length, get_or, sym, ap, subst, ◌∙◌, arith, Some, None}
 use Rattle.std.specs.Prelude.{slice_get}
 use Rattle.std.proofs.lemmas.Option.{slice_get-get_or}

@@ -1,5 +1,5 @@
 -- The steps of a put keep the rule.
-use Rattle.std.proofs.Common.{◌≡◌, ◌≢◌, ⊎_elim, ℕ, ◌+◌, ◌-◌, ◌<◌, Bool, true, false, cond, eqb}
+use Rattle.std.proofs.Common.{[], ◌≡◌, ◌≢◌, ⊎_elim, ℕ, ◌+◌, ◌-◌, ◌<◌, Bool, true, false, cond, eqb}
 use Rattle.std.proofs.Common.{List, ◌∷◌, length, get_or, set, refl, sym, ap, subst, ◌∙◌, arith}
 use Rattle.std.proofs.Common.{eq-eqb, ne_eqb, lt_of_not-le, Option, Some, None}
 use native.Mathlib.Decide.{dec_le, ℕ_discrete}

@@ -1,5 +1,5 @@
 -- A seat between its steps: it has its number still, and is free again after an entry.
-use Rattle.std.proofs.Common.{◌≡◌, ℕ, ◌+◌, ◌<◌, true, ◌∷◌, sym, ap, subst, ◌∙◌}
+use Rattle.std.proofs.Common.{[], ◌≡◌, ℕ, ◌+◌, ◌<◌, true, ◌∷◌, sym, ap, subst, ◌∙◌}
 use Rattle.histories.specs.declared.account.Account.{Account}
 use Rattle.histories.specs.Account.{has_number}
 use Rattle.histories.proofs.AccountLemmas.{has_number-share_after}

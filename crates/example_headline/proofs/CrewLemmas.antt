@@ -1,5 +1,5 @@
 -- How a reader and writers go on, by what their ends' calls answer.
-use Rattle.std.proofs.Common.{◌≡◌, ◌≢◌, ◌⊎◌, ◌↔◌, inl, inr, ◌+◌, ◌++◌, ◌<◌, ℕ, suc, List, ◌∷◌}
+use Rattle.std.proofs.Common.{[], ◌≡◌, ◌≢◌, ◌⊎◌, ◌↔◌, inl, inr, ◌+◌, ◌++◌, ◌<◌, ℕ, suc, List, ◌∷◌}
 use Rattle.std.proofs.Common.{length, map, refl, true, false}
 use Rattle.std.proofs.Common.{reverse, sym, ◌∙◌, ap, subst, arith, Some, None}
 use Rattle.std.proofs.Common.{◌≤◌, Bool}

@@ -1,5 +1,5 @@
 -- What all ends of a crew come to.
-use Rattle.std.proofs.Common.{◌≡◌, ◌+◌, ◌++◌, ◌<◌, ℕ, zero, suc, List, ◌∷◌, length, map, refl}
+use Rattle.std.proofs.Common.{[], ◌≡◌, ◌+◌, ◌++◌, ◌<◌, ℕ, zero, suc, List, ◌∷◌, length, map, refl}
 use Rattle.std.proofs.Common.{sym, true}
 use Rattle.std.proofs.Common.{◌∙◌, ap, subst, arith}
 use Rattle.std.specs.Prelude.{Option, Some, None, slice_index_or, take}

@@ -1,5 +1,5 @@
 -- Facts on lists: what is true of each element, and lists of which one is a past of the other.
-use Rattle.std.proofs.Common.{◌≡◌, ◌≢◌, ◌⊎◌, inl, inr, ⊎_elim, ℕ, zero, suc, ◌≤◌}
+use Rattle.std.proofs.Common.{[], ◌≡◌, ◌≢◌, ◌⊎◌, inl, inr, ⊎_elim, ℕ, zero, suc, ◌≤◌}
 use Rattle.std.proofs.Common.{List, ◌∷◌, ◌++◌, length, map, set, refl, sym}
 use mathlib.Core.Option.{some, some-injective, some-ne-none}
 use lib.ListN.{get_elem?}

@@ -1,6 +1,6 @@
 -- All seats still fit one history after each thing that may become of one of them:
 -- nothing, a look at the history, an entry, a split, a number handed over, a join.
-use Rattle.std.proofs.Common.{◌≡◌, ◌≢◌, ⊎_elim, ℕ, zero, suc, ◌+◌, ◌<◌, ◌≤◌, true}
+use Rattle.std.proofs.Common.{[], ◌≡◌, ◌≢◌, ⊎_elim, ℕ, zero, suc, ◌+◌, ◌<◌, ◌≤◌, true}
 use Rattle.std.proofs.Common.{eqb, List, ◌∷◌, ◌++◌, length, map, set, refl, sym, ap, subst}
 use Rattle.std.proofs.Common.{◌∙◌, arith, eq-eqb, ne_eqb}
 use Rattle.std.specs.List.{AllByRecursion, list_any}

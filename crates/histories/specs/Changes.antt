@@ -1,6 +1,6 @@
 -- The changes of an account: an entry, a split, a number handed over, a join. First the account
 -- after each change, and then what a call says of it.
-use Rattle.std.specs.Prelude.{◌≡◌, ℕ, ◌<◌, List, ◌∷◌, ◌++◌, map, IsTrue}
+use Rattle.std.specs.Prelude.{[], ◌≡◌, ℕ, ◌<◌, List, ◌∷◌, ◌++◌, map, IsTrue}
 use Rattle.std.specs.List.{AllByRecursion}
 use Rattle.histories.specs.declared.account.Account.{Account}
 use Rattle.histories.specs.declared.account.Share.{Share}

@@ -4,14 +4,14 @@ mod RunLemmas
 mod ForeverLemmas
 pub mod AskedLemmas
 pub mod LawLemmas
-pub mod RoundLemmas
-pub mod LongLemmas
+mod RoundLemmas
+mod LongLemmas
 pub mod SeatingLemmas
 pub mod FinishLemmas
 pub mod ReadingLemmas
 pub mod FillLemmas
 pub mod ModeLemmas
-pub mod CallLemmas
+mod CallLemmas
 pub mod WrittenLemmas
 pub mod ChainLemmas
 pub mod WaitLemmas

@@ -1,11 +1,11 @@
-pub mod AskLemmas
+mod AskLemmas
 mod WaitQueueLemmas
-pub mod ReleaseLemmas
+mod ReleaseLemmas
 mod RequestLemmas
 mod SemaLawLemmas
 mod SemaLemmas
-pub mod TellLemmas
-pub mod UnitLemmas
+mod TellLemmas
+mod UnitLemmas
 mod WokenLemmas
 mod WorkedAsking
 mod WorkedOpenings

@@ -30,8 +30,8 @@ use Rattle.semaphore.specs.Seats.{IsSeatAt, rendez_at, rendez_of_seat, units_giv
 use Rattle.semaphore.specs.SemaHistory.{SemaEntry}
 use Rattle.semaphore.specs.SemaLaws.{AlwaysHolds}
 use Rattle.semaphore.specs.Units.{IsSound, is_idle, stage_of, answer_to}
-use Rattle.semaphore.specs.Timing.{TimedAcquire}
-use Rattle.timer_list.specs.Timing.{TimedPoint, TimedCall}
+use Rattle.semaphore.specs.Timing.{AcquiresBy}
+use Rattle.timer_list.specs.Timing.{TimedPoint, TimedThroughout, timed_throughout}
 use Rattle.semaphore.proofs.Broken.{entry}
 use Rattle.waiting.specs.declared.call.Reply.TheVariants as reply
 use Rattle.waiting.specs.Waiting.{Point, Waited}
@@ -318,19 +318,19 @@ the_answers_are = (refl, refl, refl, refl, refl, refl)
 
 module _ (sema : Sema) (watch : Timers) (moment : ℕ) (before after : TimedPoint SemaSeat) where
   timed_without_a_unit : units_given after.at.seat ≡ units_given before.at.seat
-      → ¬ TimedAcquire sema watch moment before (Ok tt) after
+      → ¬ AcquiresBy (timed_throughout watch moment) sema before (Ok tt) after
   timed_without_a_unit none acquires =
       let units = acquires.units in omega (arith, none, units)
 
   timed_out_with_a_unit : units_given after.at.seat ≡ units_given before.at.seat + 1
-      → ¬ TimedAcquire sema watch moment before (Err fault.TimedOut) after
+      → ¬ AcquiresBy (timed_throughout watch moment) sema before (Err fault.TimedOut) after
   timed_out_with_a_unit one acquires =
       let units = acquires.units in omega (arith, one, units)
 
   timed_without_a_wait : (answer : Result Unit Fault)
-      → ¬ TimedCall (acquiring sema) (rendez_at sema before.at.seat) watch moment before answer
-      after
-      → ¬ TimedAcquire sema watch moment before answer after
+      → ¬ TimedThroughout (acquiring sema) (rendez_at sema before.at.seat) watch moment before
+      answer after
+      → ¬ AcquiresBy (timed_throughout watch moment) sema before answer after
   timed_without_a_wait answer none acquires = none acquires.takes
 
 -- ---- a law of no state

@@ -5,9 +5,8 @@ use Rattle.semaphore.specs.declared.sema.Sema.{Sema}
 use Rattle.semaphore.specs.declared.sema.SemaSeat.{SemaSeat}
 use Rattle.semaphore.specs.Acquiring.{acquiring}
 use Rattle.semaphore.specs.Seats.{rendez_at, units_given}
-use Rattle.timer_list.specs.declared.timers.Timers.{Timers}
 use Rattle.timer_list.specs.declared.timers.TimerSeat.{TimerSeat}
-use Rattle.timer_list.specs.Timing.{TimedPoint, until_a_moment}
+use Rattle.timer_list.specs.Timing.{TimedPoint}
 use Rattle.waiting.specs.Runners.{Runs}
 
 -- one unit where it was acquired, else none
@@ -21,8 +20,3 @@ pub record AcquiresBy (runs : Runs TimerSeat) (sema : Sema) (before : TimedPoint
     (answer : Result Unit Fault) (after : TimedPoint SemaSeat) : Type 0 where
   pub units : units_given after.at.seat ≡ units_given before.at.seat + timed_units_of answer
   pub takes : runs.ran (acquiring sema) (rendez_at sema before.at.seat) before answer after
-
--- a tsemacquire until this moment
-abbrev pub TimedAcquire : Sema → Timers → ℕ → TimedPoint SemaSeat → Result Unit Fault
-    → TimedPoint SemaSeat → Type 0
-TimedAcquire sema timers moment = AcquiresBy (until_a_moment timers moment) sema

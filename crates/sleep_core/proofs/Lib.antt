@@ -1,15 +1,15 @@
-pub mod ListLemmas
+mod ListLemmas
 pub mod Soundness
-pub mod BareLemmas
+mod BareLemmas
 pub mod ClearLemmas
 pub mod RunSteps
-pub mod LocalityLemmas
+mod LocalityLemmas
 pub mod EventTableLemmas
 pub mod OwnEvents
 pub mod CoreInvariant
 pub mod Moves
 pub mod TokenLemmas
-pub mod Frames
+mod Frames
 pub mod SleeperKeeps
 pub mod LeaverKeeps
 pub mod RaiserKeeps

@@ -1,5 +1,5 @@
 pub mod BrokenLemmas
-pub mod CallLemmas
+mod CallLemmas
 pub mod GroupLemmas
 mod GroupMembers
 mod GroupNumbers

@@ -14,7 +14,7 @@ pub mod AskLemmas
 mod CountLemmas
 mod RequestLemmas
 mod AboveLemmas
-pub mod EndLemmas
+mod EndLemmas
 mod PartnerLemmas
 mod JoinLemmas
 pub mod TwoLemmas

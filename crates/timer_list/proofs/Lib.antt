@@ -3,7 +3,7 @@ mod EarlierLemmas
 mod NoteLemmas
 pub mod OwnStepLemmas
 mod OwnTimerLemmas
-pub mod TickLemmas
+mod TickLemmas
 mod TimerLemmas
 mod TournamentLemmas
 mod WorkedAsking
@@ -13,4 +13,4 @@ mod WorkedSeats
 mod WorkedTimes
 pub mod BrokenTimers
 mod TimedLemmas
-pub mod UntimedLemmas
+mod UntimedLemmas

@@ -196,8 +196,3 @@ module _ {Seat Out : Type 0} (promise : Promise Seat Out) (rendez : RendezId) (t
 abbrev pub timed_throughout : Timers → ℕ → Runs TimerSeat
 timed_throughout timers moment =
     record { ran = λ promise rendez. TimedThroughout promise rendez timers moment }
-
--- it waits until this moment at these timers
-abbrev pub until_a_moment : Timers → ℕ → Runs TimerSeat
-until_a_moment timers moment =
-    record { ran = λ promise rendez. TimedCall promise rendez timers moment }
