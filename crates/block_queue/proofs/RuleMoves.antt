@@ -184,6 +184,3 @@ module _ (key : Key) (t : QueueTable) (rule : IsOneQueue key t) (id : ℕ) (befo
             ) rule.writers
             (entered_fits seat_of rule.ledger id entry before.account own_ledger);
       }
-
--- the puts of a seat's numbers after an entry of it
-module _ (putting putting' : ℕ → Option ℕ) (due : ℕ → Option ℕ) (entry : Entry) where
