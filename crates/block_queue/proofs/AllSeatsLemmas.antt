@@ -1,5 +1,5 @@
 -- All seats of a queue: they are in order when it is made, and each call leaves them so.
-use Rattle.std.proofs.Common.{[], ◌≡◌, ℕ, suc, ◌+◌, List, ◌∷◌, ◌++◌, length}
+use Rattle.std.proofs.Common.{[], ◌≡◌, ℕ, suc, ◌+◌, List, ◌∷◌, length}
 use Rattle.std.proofs.Common.{refl, sym, ap, ◌∙◌, arith, Some}
 use Rattle.std.specs.Prelude.{slice_get}
 use Rattle.std.specs.List.{AllByRecursion}

@@ -21,7 +21,7 @@ use Rattle.block_queue.specs.declared.entry.Entry.{Entry}
 use Rattle.block_queue.specs.History.{QueueState, opening_state, with_put}
 use Rattle.block_queue.specs.Meaning.{queue_meaning}
 use Rattle.block_queue.specs.QueueObject.{Contents, new_kept, last_number, queue_definition}
-use Rattle.block_queue.specs.QueueObject.{put_reply, take_reply, reply_to, after_reply}
+use Rattle.block_queue.specs.QueueObject.{take_reply, reply_to, after_reply}
 use Rattle.block_queue.specs.Laws.{Shows, IsCall, entries_of, queue_history}
 use Rattle.block_queue.specs.Laws.{EachCallIsRight, ObjectsAreQueues}
 use Rattle.block_queue.proofs.StateLemmas.{begun_is}

@@ -1,7 +1,7 @@
 -- Where a ring of sixteen places keeps what, worked out by the definitions alone.
 use Rattle.std.proofs.Common.{◌≡◌, refl, true}
 use Rattle.block_queue.specs.declared.places.TheConstants.{MARK}
-use Rattle.block_queue.specs.History.{QueueState, opening_state}
+use Rattle.block_queue.specs.History.{opening_state}
 use Rattle.block_queue.specs.Places.{place_of, lap_of, sequence_of, ring_words, free_word}
 use Rattle.block_queue.specs.Places.{stored_word, tail_word}
 

@@ -1,6 +1,6 @@
 -- What the ring's rule says between two steps, and what an object shows: each against the rows that
 -- it names.
-use Rattle.std.proofs.Common.{◌≡◌, ◌≢◌, ◌<◌, ◌≤◌, ◌+◌, ℕ, List, [], length, true, false}
+use Rattle.std.proofs.Common.{◌≡◌, ◌≢◌, ◌<◌, ◌≤◌, ◌+◌, ℕ, List, length, true, false}
 use Rattle.std.proofs.Common.{Some, None, refl, arith}
 use Rattle.std.specs.Prelude.{◌⊎◌, Bool, Option, IsTrue, slice_get, slice_index}
 use Rattle.std.specs.List.{AllByRecursion}

@@ -4,7 +4,6 @@ use Rattle.std.proofs.Common.{List, ◌∷◌, ◌++◌, length, map, set, refl,
 use mathlib.Core.Option.{some, some-injective, some-ne-none}
 use lib.ListN.{get_elem?}
 use Rattle.std.proofs.Common.{ap, subst, ◌∙◌, arith, append_assoc, append-nil, length-append}
-use Rattle.std.proofs.Common.{◌||◌}
 use Rattle.std.specs.List.{AllByRecursion}
 use Rattle.histories.specs.History.{IsPast}
 

@@ -19,7 +19,7 @@ use Rattle.calls.specs.declared.process.Timer.{Timer}
 use Rattle.calls.specs.declared.process.Timer.TheVariants as timer
 use Rattle.calls.specs.declared.process.Want.TheVariants as want
 use Rattle.calls.specs.declared.rendez.Stage.TheVariants as stage
-use Rattle.calls.specs.Position.{Position, after_of, opening_of}
+use Rattle.calls.specs.Position.{after_of, opening_of}
 use Rattle.calls.specs.Program.{Program}
 use Rattle.p9explore.specs.declared.call_answer.Showing.{Showing}
 use Rattle.p9explore.specs.declared.names.Kind.TheVariants as kind
@@ -31,7 +31,6 @@ use Rattle.p9explore.specs.CallSteps.{in_column, in_lines, line_front, process_o
 use Rattle.p9explore.specs.CallText.{chart_head, chart_of, front_text, if_core}
 use Rattle.p9explore.specs.CallText.{in_words}
 use Rattle.p9explore.specs.Names.{Named, object_at}
-use Rattle.p9explore.specs.Nevers.{played}
 
 -- ---- two processes that sleep in one Rendez, the second of which is refused
 

@@ -7,8 +7,8 @@ use Rattle.histories.specs.declared.account.Account.{Account}
 use Rattle.histories.specs.History.{IsLegal}
 use Rattle.block_queue.specs.declared.entry.Entry.{Entry}
 use Rattle.block_queue.specs.declared.entry.Entry.TheVariants as entry
-use Rattle.block_queue.specs.declared.entry.Entry.TheVariants.{Taken, Stood, Full, Hungup, Worn}
-use Rattle.block_queue.specs.declared.entry.Entry.TheVariants.{Block, NotYet, End, Hung}
+use Rattle.block_queue.specs.declared.entry.Entry.TheVariants.{Full, Hungup}
+use Rattle.block_queue.specs.declared.entry.Entry.TheVariants.{NotYet, Hung}
 use Rattle.block_queue.specs.declared.view.Key.{Key}
 use Rattle.block_queue.specs.History.{opening_state, IsRight}
 use Rattle.block_queue.specs.Meaning.{Enters, KnowsQueue, queue_meaning, queue_after}

@@ -1,5 +1,5 @@
 -- What is known of pipes while they are made one after the other, and while their ends are lent.
-use Rattle.std.proofs.Common.{[], ◌≡◌, ◌≤◌, ◌<◌, ◌+◌, ◌*◌, ◌++◌, ℕ, zero, suc, List, ◌∷◌, length}
+use Rattle.std.proofs.Common.{[], ◌≡◌, ◌<◌, ◌+◌, ◌*◌, ◌++◌, ℕ, zero, suc, List, ◌∷◌, length}
 use Rattle.std.proofs.Common.{drop, ap, sym, subst, arith, length-append, ◌∙◌}
 use Rattle.std.proofs.Math.Nat.{suc-mul}
 use Rattle.std.proofs.Math.ListN.{get_or}

@@ -1,7 +1,6 @@
 -- What a wait for a unit says that was answered well.
 use Rattle.std.proofs.Common.{Ok}
 use Rattle.std.specs.Prelude.{true}
-use Rattle.sleep_wakeup.specs.Kernel.{Running}
 use Rattle.semaphore.specs.declared.acquiring.Semacquired.{Semacquired}
 use Rattle.semaphore.specs.declared.acquiring.Semacquired.TheVariants as got
 use Rattle.semaphore.specs.declared.sema.Sema.{Sema}

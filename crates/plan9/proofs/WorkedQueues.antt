@@ -1,5 +1,5 @@
 -- What is no send and no receive until a moment: each against one row.
-use Rattle.std.proofs.Common.{◌≡◌, ◌≢◌, ℕ, Result, Err}
+use Rattle.std.proofs.Common.{◌≢◌, ℕ, Result, Err}
 use Rattle.sync_base.specs.declared.fault.Fault.{Fault}
 use Rattle.sync_base.specs.declared.fault.Fault.TheVariants.{NoRendez}
 use Rattle.messages.specs.declared.answers.Received.{Received}

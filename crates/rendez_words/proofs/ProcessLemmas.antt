@@ -1,5 +1,5 @@
 -- What a process is after a step.
-use Rattle.std.proofs.Common.{◌≡◌, ℕ, ◌<◌, true, ◌∷◌, if◌then◌else◌, sym}
+use Rattle.std.proofs.Common.{◌≡◌, ℕ, true, ◌∷◌, if◌then◌else◌, sym}
 use Rattle.std.proofs.Common.{◌∙◌, ap, subst}
 use Rattle.atomic_table.specs.Seated.{TableId}
 use Rattle.sleep_core.specs.declared.event.Event.{Event}

@@ -3,7 +3,7 @@ use Rattle.std.proofs.Common.{◌≡◌, ◌≢◌, ◌⊎◌, inl, inr, ℕ, ze
 use Rattle.std.proofs.Common.{Bool, true, false, if◌then◌else◌, List, [], ◌∷◌, ◌++◌, length}
 use Rattle.std.proofs.Common.{get_or, set, refl, sym, ap, ◌∙◌, arith}
 use Rattle.std.proofs.lemmas.Bool.Decides.{nat_tests}
-use Rattle.sleep_wakeup.specs.Groups.{holds, group_of, without, joins}
+use Rattle.sleep_wakeup.specs.Groups.{holds, group_of, without}
 use Rattle.sleep_wakeup.specs.Groups.{members_from, groups_by}
 
 -- two numbers are the same or not

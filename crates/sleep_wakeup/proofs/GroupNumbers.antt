@@ -5,7 +5,6 @@ use Rattle.std.proofs.Common.{get_or, set, nat_lt, refl, sym, ap, ◌∙◌, sub
 use Rattle.std.proofs.lemmas.Bool.Decides.{nat_tests}
 use Rattle.std.proofs.lemmas.List.{get_or-set_same, get_or-set_other}
 use Rattle.std.proofs.Math.ListN.{length-set}
-use Rattle.sleep_wakeup.specs.Groups.{begins, joins, leaves}
 use Rattle.sleep_wakeup.specs.Groups.{members_from, groups_by, AreNumbers}
 use Rattle.sleep_wakeup.specs.Groups.{times_in, times, RisesFrom, EachRises, AreGroups}
 use Rattle.sleep_wakeup.proofs.GroupMembers.{same_or_not, is_true, is_false, member_first}

@@ -1,5 +1,5 @@
 -- What a read is answered in each mode, and that a read in stream mode keeps a state.
-use Rattle.std.proofs.Common.{◌≡◌, ◌≢◌, ℕ, ◌+◌, ◌-◌, ◌<◌, ◌≤◌, List, [], ◌∷◌, length, take, drop}
+use Rattle.std.proofs.Common.{◌≡◌, ℕ, ◌+◌, ◌-◌, ◌<◌, ◌≤◌, List, [], ◌∷◌, length, take, drop}
 use Rattle.std.proofs.Common.{Bool, true, false, nat_lt, nat_le, cond, Option, None, Some}
 use Rattle.std.proofs.Common.{unwrap_or, refl, ◌∙◌, sym, ap, subst, arith, length-drop, drop-drop}
 use Rattle.std.proofs.Common.{suc, zero}
@@ -8,12 +8,12 @@ use Rattle.std.specs.List.{slice_get}
 use Rattle.std.proofs.lemmas.List.{nil_from_length, length-take}
 use Rattle.std.proofs.lemmas.Option.{slice_get_within}
 use Rattle.std.proofs.lemmas.Bool.Decides.{nat_tests}
-use Rattle.sync_base.specs.declared.answers.ReadAnswer.TheVariants.{Got, Empty, End}
+use Rattle.sync_base.specs.declared.answers.ReadAnswer.TheVariants.{Got, End}
 use Rattle.sync_base.specs.declared.mode.Mode.{Mode}
 use Rattle.sync_base.specs.declared.mode.Mode.TheVariants.{Message, Stream}
 use Rattle.sync_base.specs.Write.{Write}
 use Rattle.sync_base.specs.PlainPipe.{first_bytes}
-use Rattle.sync_base.specs.Pipe.{PipeState, IsPipeState, Reach, reach_of, joined, by_mode, begun_of}
+use Rattle.sync_base.specs.Pipe.{PipeState, IsPipeState, Reach, reach_of, joined, by_mode}
 use Rattle.sync_base.specs.Pipe.{waiting_of, next_write, unread_bytes, unread_writes, piece_of}
 use Rattle.sync_base.specs.Pipe.{nothing_read, bytes_read, MayAnswerRead, MayAnswerStreamRead}
 use Rattle.sync_base.specs.Pipe.{read_answer, message_answer, stream_answer, after_read}

@@ -1,5 +1,5 @@
 -- Reads that go on from write to write: the bytes that they join, and how far they come.
-use Rattle.std.proofs.Common.{[], ◌≡◌, ◌≢◌, ◌==◌, ℕ, suc, zero, min, nat_lt, cond, ◌+◌, ◌-◌, ◌<◌, ◌≤◌}
+use Rattle.std.proofs.Common.{[], ◌≡◌, ◌==◌, ℕ, suc, zero, min, nat_lt, cond, ◌+◌, ◌-◌, ◌<◌, ◌≤◌}
 use Rattle.std.proofs.Common.{List, ◌∷◌, ◌++◌, length, take, drop, get_or, Bool, true, false}
 use Rattle.std.proofs.Common.{refl, ◌∙◌, sym, ap, subst, arith, length-drop}
 use Rattle.std.proofs.Common.{length-append, drop-drop}

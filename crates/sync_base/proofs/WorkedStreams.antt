@@ -1,9 +1,9 @@
 -- Reads in stream mode, computed from the definitions alone, and what a wrong one would leave.
-use Rattle.std.proofs.Common.{◌≡◌, ◌≢◌, ℕ, List, [], ◌∷◌, length, true, false, refl, ap, arith}
+use Rattle.std.proofs.Common.{◌≡◌, ◌≢◌, ℕ, List, [], ◌∷◌, true, false, refl, ap, arith}
 use Rattle.sync_base.specs.declared.answers.ReadAnswer.TheVariants.{Got, Empty, End}
 use Rattle.sync_base.specs.declared.mode.Mode.TheVariants.{Message, Stream}
 use Rattle.sync_base.specs.Write.{Write}
-use Rattle.sync_base.specs.Pipe.{PipeState, Reach, reach_of, stops_at, unread_bytes, waiting_of}
+use Rattle.sync_base.specs.Pipe.{PipeState, reach_of, stops_at, unread_bytes, waiting_of}
 use Rattle.sync_base.specs.Pipe.{read_answer, after_read}
 
 -- a write of the writer 0

@@ -2,7 +2,7 @@
 use Rattle.std.specs.Prelude.{◌≡◌, ℕ, ◌-◌, ◌<◌, ◌≤◌, nat_lt, if◌then◌else◌, Bool, List, [], ◌∷◌}
 use Rattle.std.specs.Prelude.{length, drop, ◌⊎◌}
 use Rattle.sync_base.specs.Write.{Write}
-use Rattle.sync_base.specs.Pipe.{PipeState, Reach, reach_of, joined}
+use Rattle.sync_base.specs.Pipe.{PipeState, Reach, joined}
 use Rattle.sync_base.specs.declared.mode.Mode.{Mode}
 use Rattle.sync_base.specs.declared.limits.TheConstants.{MAX_PIPE_LIMIT}
 use Rattle.sync_base.specs.declared.answers.ReadAnswer.{ReadAnswer}

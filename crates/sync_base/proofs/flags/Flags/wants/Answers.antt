@@ -1,5 +1,5 @@
 -- A flag is set where its bit is 1.
-use Rattle.std.proofs.Common.{◌≡◌, ◌==◌, ◌^◌, ◌*◌, ◌∙◌, ℕ, not, ap, arith, bit_and}
+use Rattle.std.proofs.Common.{◌≡◌, ◌==◌, ◌^◌, ℕ, not, arith, bit_and}
 use Rattle.std.specs.Int.{bit_at}
 use Rattle.std.proofs.lemmas.Bool.Decides.{nat_tests}
 use Rattle.std.proofs.lemmas.Nat.Bits.{and_pow, bit_at-lt}

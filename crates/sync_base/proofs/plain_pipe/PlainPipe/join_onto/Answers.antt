@@ -1,9 +1,9 @@
 -- a write more is joined
-use Rattle.std.proofs.Common.{◌≡◌, ◌≤◌, ◌<◌, ◌++◌, length, take, drop, get_or, sym, ap, subst, ◌∙◌}
+use Rattle.std.proofs.Common.{◌≡◌, ◌≤◌, ◌<◌, length, take, drop, get_or, ap, subst, ◌∙◌}
 use Rattle.std.proofs.Common.{arith, rules, length-append}
 use Rattle.std.proofs.lemmas.List.{take_rest}
 use Rattle.sync_base.specs.Write.{Write}
-use Rattle.sync_base.specs.PlainPipe.{Contents, kept_bytes}
+use Rattle.sync_base.specs.PlainPipe.{Contents}
 use Rattle.sync_base.proofs.StreamLemmas.{joins_more, offset_within, first_there}
 use Rattle.sync_base.proofs.plain_pipe.PlainPipe.join_onto.Goals as goal
 
