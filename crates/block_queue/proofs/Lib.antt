@@ -16,6 +16,7 @@ pub mod EmptyingLemmas
 pub mod JoiningLemmas
 pub mod GatherLemmas
 pub mod ObjectLemmas
+pub mod MomentLemmas
 pub mod WorkedQueue
 pub mod WorkedObject
 mod WorkedPlaces

@@ -5,6 +5,7 @@ pub mod GatherSteps
 pub mod History
 pub mod Laws
 pub mod Meaning
+pub mod Moments
 pub mod Opening
 pub mod Places
 pub mod QueueObject

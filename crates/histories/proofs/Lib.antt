@@ -3,4 +3,5 @@ pub mod AloneLemmas
 pub mod HistoryLemmas
 pub mod ListLemmas
 pub mod SeatsKeep
+pub mod TimeLemmas
 pub mod WorkedHistories

@@ -4,10 +4,15 @@ use Rattle.std.proofs.Common.{◌≡◌, ℕ, ◌+◌, ◌<◌, ◌≤◌, true,
 use Rattle.std.proofs.Common.{refl, arith, ap, sym, ◌∙◌, length, ◌++◌}
 use Rattle.histories.specs.declared.account.Account.{Account}
 use Rattle.histories.specs.History.{Meaning, IsPast, IsLegal, entries_by, state_after}
-use Rattle.histories.specs.Account.{HasAllNumbers, numbers_from}
+use Rattle.histories.specs.Account.{HasAllNumbers, first_account, numbers_from}
 use Rattle.histories.specs.Account.{longer_of, shorter_of, share_after, unused_share}
 use Rattle.histories.specs.Changes.{child_account, entered_account, joined_account, parent_account}
 use Rattle.histories.specs.Changes.{AddsEntry, GivesNumber, JoinsAccounts, LooksAt}
+use Rattle.histories.specs.Ledger.{Ledger, AreSeats, ledger_gave, ledger_with, opening_ledger}
+use Rattle.histories.specs.Time.{KeepsTime}
+use Rattle.histories.proofs.ListLemmas.{past_refl, past_nil}
+use Rattle.histories.proofs.SeatsKeep.{seats_open, seats_split, seats_enter}
+use Rattle.histories.proofs.TimeLemmas.{keeps_time, stays_own}
 
 -- a jar of coins: a seat puts coins in, or takes some that are there
 data Move : Type 0 where
@@ -194,3 +199,79 @@ a_look_of_all_misses_one looks =
 an_entry_of_its_own_is_news : LooksAt by (puts 1 3 ∷ []) second → ⊥
 an_entry_of_its_own_is_news looks =
     let own : puts 1 3 ∷ [] ≡ [] = looks.mine.0.entries in cc
+
+-- ---- the order in time
+
+-- seat 0, which has all numbers, gives number 1 to a new seat
+abbrev giver : Account Move
+giver = parent_account 1 (first_account 0)
+
+abbrev given : Account Move
+given = child_account 1 (first_account 0)
+
+abbrev its : Account Move → Account Move
+its account = account
+
+abbrev dawn : Ledger Move
+dawn = ledger_gave 0 1 (opening_ledger 0)
+
+dawn_seats : AreSeats by its dawn (giver ∷ given ∷ [])
+dawn_seats =
+    seats_split by its (opening_ledger 0) (first_account 0 ∷ []) 0 0 (first_account 0) giver given
+    (seats_open by its 0 (first_account 0) refl) refl refl refl refl
+
+-- what they know once seat 0 has put 2 coins, and once seat 1 has put 3, after these entries
+abbrev with_2 : List Move → Account Move
+with_2 past = entered_account by (puts 0 2) past giver
+
+abbrev with_3 : List Move → Account Move
+with_3 past = entered_account by (puts 1 3) past given
+
+-- seat 0 puts first
+abbrev morning : List (Account Move)
+morning = with_2 [] ∷ given ∷ []
+
+abbrev noon : List (Account Move)
+noon = with_2 [] ∷ with_3 (puts 0 2 ∷ []) ∷ []
+
+morning_seats : AreSeats by its (ledger_with (puts 0 2) dawn) morning
+morning_seats =
+    seats_enter by its dawn (giver ∷ given ∷ []) 0 giver (with_2 []) (puts 0 2) dawn_seats refl refl
+    refl
+
+noon_seats : AreSeats by its (ledger_with (puts 1 3) (ledger_with (puts 0 2) dawn)) noon
+noon_seats =
+    seats_enter by its (ledger_with (puts 0 2) dawn) morning 1 given (with_3 (puts 0 2 ∷ []))
+    (puts 1 3) morning_seats refl refl refl
+
+-- so what is put between morning and noon comes after what was seen in the morning
+the_day_keeps_time : KeepsTime by its morning noon
+the_day_keeps_time =
+    keeps_time by its (ledger_with (puts 0 2) dawn)
+    (ledger_with (puts 1 3) (ledger_with (puts 0 2) dawn)) morning noon morning_seats noon_seats
+    (stays_own its morning 1 given (with_3 (puts 0 2 ∷ [])) refl
+    (past_nil (puts 1 3 ∷ puts 0 2 ∷ [])))
+
+-- a noon at which the 3 coins were put before the 2, which were seen in the morning: the history is
+-- legal and has each entry once
+abbrev wrong_noon : List (Account Move)
+wrong_noon = with_2 (puts 1 3 ∷ []) ∷ with_3 [] ∷ []
+
+wrong_is_legal : IsLegal jar 0 (puts 0 2 ∷ puts 1 3 ∷ [])
+wrong_is_legal = (omega arith, (omega arith, tt))
+
+-- but not the order in time
+wrong_noon_is_out_of_time : KeepsTime by its morning wrong_noon → ⊥
+wrong_noon_is_out_of_time keeps =
+    let past = keeps 1 (puts 1 3) [] (puts 0 2 ∷ [])
+    (record {
+      old = given;
+      new = with_3 [];
+      at_first = refl;
+      at_second = refl;
+      own = refl;
+      later = past_refl [];
+      made = past_refl (puts 1 3 ∷ []);
+    })
+    (record { seat = 0; view = with_2 []; there = refl; past = past_refl (puts 0 2 ∷ []) }) in
+    not_after past.since (puts 0 2) past.new_is

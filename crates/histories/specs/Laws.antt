@@ -6,6 +6,7 @@ use Rattle.histories.specs.declared.account.Account.{Account}
 use Rattle.histories.specs.History.{IsPast}
 use Rattle.histories.specs.Account.{HasAllNumbers, has_number}
 use Rattle.histories.specs.Ledger.{Ledger, AreSeats}
+use Rattle.histories.specs.Time.{StaysSeen, KeepsTime}
 
 module _ (Entry : Type 0) where
   -- of two pasts of one history the shorter is a past of the longer
@@ -38,3 +39,12 @@ module _ (Entry : Type 0) where
   KnowsWholeHistory = (by : Entry → ℕ) (ledger : Ledger Entry) (accounts : List (Account Entry))
       (seat : ℕ) (account : Account Entry) → IsAlone by ledger accounts seat account →
       ledger.history ≡ account.seen
+
+module _ (View Entry : Type 0) where
+  -- where seats fit one history at two moments, and what was seen at the first is seen at the
+  -- second, entries come in the order of time
+  abbrev pub SeatsKeepTime : Type 0
+  SeatsKeepTime = (by : Entry → ℕ) (account_of : View → Account Entry) (first last : Ledger Entry)
+      (begun ended : List View) → AreSeats by account_of first begun →
+      AreSeats by account_of last ended → StaysSeen account_of begun ended →
+      KeepsTime by account_of begun ended

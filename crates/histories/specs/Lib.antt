@@ -3,3 +3,4 @@ pub mod Changes
 pub mod History
 pub mod Laws
 pub mod Ledger
+pub mod Time

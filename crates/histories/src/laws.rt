@@ -5,6 +5,7 @@ ghost use Rattle.histories.specs.Laws.{
   HasEveryNumber,
   NoOtherHasOne,
   KnowsWholeHistory,
+  SeatsKeepTime,
 };
 
 /// Of two pasts of one history the shorter is a past of the longer.
@@ -18,4 +19,11 @@ pub fn all_numbers_know_all<E>()
     ensures every { HasEveryNumber E }
     ensures alone { NoOtherHasOne E }
     ensures whole { KnowsWholeHistory E }
+{}
+
+/// The order of the history is the order in time. Where the seats fit one history at two moments,
+/// and what was seen at the first is seen at the second, an entry that is made between them comes
+/// after all that any seat had seen at the first.
+pub fn histories_keep_time<V, E>()
+    ensures { SeatsKeepTime V E }
 {}

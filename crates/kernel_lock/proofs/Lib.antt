@@ -2,6 +2,7 @@ pub mod AcquireKeeps
 pub mod DivideKeeps
 pub mod EnterKeeps
 pub mod MergeKeeps
+pub mod MomentLemmas
 pub mod OpeningKeeps
 pub mod ReleaseKeeps
 pub mod RuleLemmas

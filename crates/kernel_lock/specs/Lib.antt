@@ -1,5 +1,6 @@
 pub mod Calls
 pub mod Definition
+pub mod Moments
 pub mod Rule
 pub mod Seats
 pub mod Steppers

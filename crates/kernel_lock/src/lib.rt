@@ -5,6 +5,7 @@
 #![tactic(auto)]
 
 mod apply;
+pub mod laws;
 pub mod lock_seat;
 pub mod locked;
 pub mod object;
