@@ -1,5 +1,5 @@
 -- The lock's history keeps the order in time: each kind of step leaves what was seen.
-use Rattle.std.proofs.Common.{◌≡◌, ℕ, List, get_or, refl, sym, ap, subst, Option}
+use Rattle.std.proofs.Common.{◌≡◌, ℕ, get_or, refl, sym, ap, subst, Option}
 use Rattle.std.proofs.Common.{Some, None}
 use mathlib.Core.Logic.{dite}
 use mathlib.Core.Option.{some}

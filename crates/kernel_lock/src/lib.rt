@@ -1,7 +1,7 @@
 //! The kernel lock: any sequential object, called by many threads through one lock. Each request is
 //! in one legal history, with the reply that the object's definition gives there. Read `object`,
-//! `view`, `rule`, `plays`, `lock_seat`, `locked`, `waiters`, `steps`, `waiting`, and then `apply`
-//! and `seats`.
+//! `view`, `rule`, `plays`, `lock_seat`, `locked`, `waiters`, `steps`, `waiting`, then `apply` and
+//! `seats`, and `laws`.
 #![tactic(auto)]
 
 mod apply;
