@@ -1,10 +1,8 @@
 -- The ring keeps the order in time: each kind of step leaves what was seen.
-use Rattle.std.proofs.Common.{◌≡◌, ◌≢◌, ℕ, ◌+◌, ◌<◌, ◌≤◌, List, ◌∷◌, refl, sym, ap, subst, ◌∙◌}
+use Rattle.std.proofs.Common.{◌≡◌, ℕ, ◌+◌, ◌-◌, List, ◌∷◌, refl, sym, ap, subst, ◌∙◌}
 use Rattle.std.proofs.Common.{arith}
 use mathlib.Core.Logic.{dite}
-use mathlib.Core.Option.{some}
 use native.Mathlib.Decide.{ℕ_discrete}
-use lib.ListN.{get_elem?}
 use Rattle.histories.specs.declared.account.Account.{Account}
 use Rattle.histories.specs.History.{IsPast, IsHistory}
 use Rattle.histories.specs.Time.{StaysSeen}
@@ -19,8 +17,8 @@ use Rattle.block_queue.specs.declared.view.View.{View}
 use Rattle.block_queue.specs.History.{seat_of, opening_state}
 use Rattle.block_queue.specs.Meaning.{Enters, queue_meaning}
 use Rattle.block_queue.specs.Moments.{Moment, Learns, put_tail, put_sequence, accept, store}
-use Rattle.block_queue.specs.Moments.{take_ready, take_tail, take_sequence, free_place, hang, survey}
-use Rattle.block_queue.specs.Moments.{Steps, RingsAreLinearizable}
+use Rattle.block_queue.specs.Moments.{take_ready, take_tail, take_sequence, free_place, hang}
+use Rattle.block_queue.specs.Moments.{survey, Steps, RingsAreLinearizable}
 use Rattle.block_queue.specs.Places.{free_word, stored_word}
 use Rattle.block_queue.specs.Rule.{IsOneQueue, account_of}
 use Rattle.block_queue.specs.Steps.{Seated}

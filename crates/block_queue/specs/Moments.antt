@@ -1,11 +1,10 @@
 -- The moments of a ring's table, from step to step, and the order in time. Own: the rule holds at
 -- each moment, and what a seat knows changes by its own steps alone, as the table promises.
-use Rattle.std.specs.Prelude.{ℕ, ◌+◌}
+use Rattle.std.specs.Prelude.{ℕ, ◌+◌, Option}
 use Rattle.atomic_table.specs.Table as table
 use Rattle.histories.specs.History.{IsHistory}
 use Rattle.histories.specs.Time.{IsStep, IsLinearizable}
 use Rattle.sync_base.specs.Write.{Write}
-use Rattle.std.specs.Prelude.{Option}
 use Rattle.block_queue.specs.declared.view.Key.{Key}
 use Rattle.block_queue.specs.declared.view.View.{View}
 use Rattle.block_queue.specs.GatherSteps.{HasSurveyed}
@@ -39,8 +38,8 @@ module _ (key : Key) where
   Steps before after =
       IsStep Learns keeper_view handed_view joined_view spent_view before.views after.views
 
--- Own. The ring is linearizable as a queue whose put is two entries: Taken, and Stood, after which no
--- take answers for this write that it does not stand.
+-- Own. Each ring is linearizable as a queue whose put is two entries, Taken and Stood: a put that
+-- has returned may lie behind one that has not, and a take then answers NotYet.
 abbrev pub RingsAreLinearizable : Type 0
 RingsAreLinearizable = (key : Key) →
     IsLinearizable seat_of account_of (λ (moment : Moment). moment.views)

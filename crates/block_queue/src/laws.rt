@@ -11,12 +11,13 @@ pub fn objects_are_queues()
     ensures histories { ObjectsAreQueues }
 {}
 
-/// *The ring is linearizable as a queue whose put is two entries* (Herlihy and Wing, "Linearizability:
-/// a correctness condition for concurrent objects", 1990): its write is Taken, and then it has Stood.
-/// Time is the order of the table's steps. At each moment there is one legal history, which has each
-/// entry of each seat once, in the seat's order. What a call made that has returned comes in it before
-/// what a call makes that begins later. With one entry a put it is not linearizable: the write of a put
-/// that has returned may lie behind one that is taken and does not stand, and a take answers NotYet.
+/// *The ring is linearizable as a queue whose put is two entries*: its write is taken, and later it
+/// stands (Herlihy and Wing, "Linearizability: a correctness condition for concurrent objects",
+/// 1990; time is the order of the table's steps). At each moment there is one legal history, which
+/// has each entry of each seat once, in the seat's order. An entry comes in it after all that any
+/// seat had seen when its call began, so after all that calls made which had returned then. As a
+/// queue whose put is one entry it is not linearizable: a put that has returned may lie behind one
+/// that has not, and a take then answers `NotYet`.
 pub fn calls_stand_in_the_order_of_time()
     ensures linearizable { RingsAreLinearizable }
 {}
