@@ -1,10 +1,11 @@
 //! A queue of values: two producers send jobs, while there is room for four, and two consumers
-//! receive them until the end. All of them start together.
+//! receive them until the end, which comes once both producers have closed. All of them start
+//! together.
 #![tactic(auto)]
 
 use plan9::{
     Ended, Fault, Job, Messages, OpenedKernel, Plan, Proc, QueueEnds, Received, Receiver, Sender,
-    Started, Team, Told, Worker, forks,
+    Started, Team, Worker, forks,
 };
 use std::alloc::Global;
 use std::sync::Wait;
@@ -32,8 +33,14 @@ impl<'m, R: Wait> Job<R> for Party<'m> {
 
     fn run(self, rt: &R, proc: &mut Proc<'_>) -> Result<u64, Fault> {
         match self {
-            Party::Producer(mut jobs) => produce(rt, proc, &mut jobs),
-            Party::Consumer(mut jobs) => consume(rt, proc, &mut jobs),
+            Party::Producer(mut jobs) => {
+                let made = produce(rt, proc, &mut jobs);
+                jobs.close(rt, proc).and(made)
+            }
+            Party::Consumer(mut jobs) => {
+                let sum = consume(rt, proc, &mut jobs);
+                jobs.close(rt, proc).and(sum)
+            }
         }
     }
 }
@@ -73,42 +80,52 @@ fn add_up(ended: &[Ended<'_, Result<u64, Fault>>]) -> Result<u64, Fault> {
     Ok(sum)
 }
 
-/// The first process, which counts how many have ended. Once the last producer has, it hangs up;
-/// and also if a consumer has, so that no producer waits for it.
-#[derive(Drop)]
-struct First<'q> {
-    ends: QueueEnds<'q, JobNumber>,
-    ended: u64,
+/// Closes the handles that all others were split from.
+fn close_ends<R: Wait>(
+    rt: &R,
+    proc: &mut Proc<'_>,
+    ends: QueueEnds<'_, JobNumber>,
+) -> Result<(), Fault> {
+    let QueueEnds { sender, receiver } = ends;
+    sender.close(rt, proc).and(receiver.close(rt, proc))
 }
 
-impl<'q, R: Wait> Told<R> for First<'q> {
-    fn told(&mut self, rt: &R, proc: &mut Proc<'_>, number: usize) {
-        self.ended = self.ended.saturating_add(1);
-        if self.ended == PRODUCERS || number as u64 >= PRODUCERS {
-            let _hung = self.ends.sender.hangup(rt, proc);
-        }
+/// A handle for each party, the producers first.
+fn parties<'m, R: Wait>(
+    rt: &R,
+    alloc: Global,
+    ends: &mut QueueEnds<'m, JobNumber>,
+) -> Result<Vec<Party<'m>>, Fault> {
+    let mut parties = Vec::new(alloc);
+    for number in 0..PARTIES {
+        parties.push(if number < PRODUCERS {
+            Party::Producer(ends.sender.split(rt)?)
+        } else {
+            Party::Consumer(ends.receiver.split(rt)?)
+        })?;
     }
+    Ok(parties)
 }
 
-/// The producers are the first workers.
 fn run_all<R: Threads + Wait + Sync>(
     rt: &R,
     alloc: Global,
-    first: &mut First<'_>,
+    ends: QueueEnds<'_, JobNumber>,
     started: &mut Started<'_>,
 ) -> Result<u64, Fault> {
     let Started { roster, proc } = started;
+    let mut ends = ends;
+    let parties = parties(rt, alloc, &mut ends)?;
+    close_ends(rt, proc, ends)?;
     let mut team = Team::new(roster, PARTIES)?;
     let mut workers = Vec::new(alloc);
-    for (number, proc) in (0..).zip(forks(alloc, roster, proc, PARTIES)?) {
-        let job = if number < PRODUCERS {
-            Party::Producer(first.ends.sender.split(rt)?)
-        } else {
-            Party::Consumer(first.ends.receiver.split(rt)?)
-        };
+    for (proc, job) in forks(alloc, roster, proc, PARTIES)?
+        .into_iter()
+        .zip(parties)
+    {
         workers.push(Worker { proc, job })?;
     }
-    add_up(&team.run(alloc, rt, proc, workers, first)?)
+    add_up(&team.run(alloc, rt, proc, workers, &mut ())?)
 }
 
 fn run<R: Threads + Wait + Sync>(rt: &R, alloc: Global) -> Result<u64, Fault> {
@@ -117,7 +134,7 @@ fn run<R: Threads + Wait + Sync>(rt: &R, alloc: Global) -> Result<u64, Fault> {
     let mut started = kernel.start(start);
     let mut jobs = Messages::new(alloc, &mut started.roster, 4, PARTIES + 2)?;
     let ends = jobs.ends(rt)?;
-    run_all(rt, alloc, &mut First { ends, ended: 0 }, &mut started)
+    run_all(rt, alloc, ends, &mut started)
 }
 
 fn main(rt: HostRuntime) -> anyhow::Result<()> {

@@ -1,11 +1,14 @@
 -- What a call may be answered, case by case.
 use Rattle.std.proofs.Common.{◌≡◌, ℕ, suc, Bool, true, false, List, [], ◌∷◌, cond, refl}
+use Rattle.std.proofs.Common.{Option, None, Some, length, nat_lt}
 use Rattle.messages.specs.declared.message_object.MessageReply.{MessageReply}
 use Rattle.messages.specs.declared.message_object.MessageReply.TheVariants as reply
 use Rattle.messages.specs.Lines.{stands_in}
 use Rattle.messages.specs.MessageObject.{Contents, can_put, can_take, may_wait, wake_of, given}
 use Rattle.messages.specs.MessageObject.{answer_put, answer_take, answer_leave_sender}
-use Rattle.messages.specs.MessageObject.{answer_leave_receiver, answer_hang}
+use Rattle.messages.specs.MessageObject.{answer_leave_receiver, answer_hang, answer_open}
+use Rattle.messages.specs.MessageObject.{answer_close, if_open, has_closed, given_place}
+use Rattle.messages.specs.Lines.{Waiters, place_of, closed}
 
 module _ {T : Type 0} (kept : Contents T) (P : MessageReply T → Type 0) where
   -- what holds of each answer to a put, by whether it is to wait
@@ -141,3 +144,44 @@ module _ {T : Type 0} (kept : Contents T) (P : MessageReply T → Type 0) where
           → P (cond hung reply.HungBefore (reply.Hung (suc kept.grants)))
       by true is = before is
       by false is = first is
+
+  -- what holds of each answer to a seat that opens on this side
+  pub open_cases : (line : Waiters)
+      → (has_closed kept line ≡ true → P reply.NoPlace)
+      → (has_closed kept line ≡ false → kept.free ≡ [] → P reply.NoPlace)
+      → (has_closed kept line ≡ false → (place : ℕ) (rest : List ℕ) → kept.free ≡ place ∷ rest
+      → P (reply.Opened place))
+      → P (answer_open kept line)
+  open_cases line over full opens = by (has_closed kept line) refl kept.free refl
+    where
+      by : (over : Bool) → has_closed kept line ≡ over → (free : List ℕ) → kept.free ≡ free
+          → P (cond over reply.NoPlace (given_place free))
+      by true is free are = over is
+      by false is [] are = full is are
+      by false is (place ∷ rest) are = opens is place rest are
+
+  -- what holds of each answer to a seat that closes on this side
+  pub close_cases : (line : Waiters) (seat : ℕ)
+      → (place_of seat line.opened ≡ None → P reply.Closed)
+      → ((place : ℕ) → place_of seat line.opened ≡ Some place
+      → nat_lt 0 (length (closed seat line.opened)) ≡ true → P reply.Closed)
+      → ((place : ℕ) → place_of seat line.opened ≡ Some place
+      → nat_lt 0 (length (closed seat line.opened)) ≡ false → kept.hung ≡ true
+      → P reply.HungBefore)
+      → ((place : ℕ) → place_of seat line.opened ≡ Some place
+      → nat_lt 0 (length (closed seat line.opened)) ≡ false → kept.hung ≡ false
+      → P (reply.Hung (suc kept.grants)))
+      → P (answer_close kept line seat)
+  close_cases line seat not others before last =
+      by (place_of seat line.opened) refl (nat_lt 0 (length (closed seat line.opened))) refl
+      kept.hung refl
+    where
+      by : (o : Option ℕ) → place_of seat line.opened ≡ o
+          → (some : Bool) → nat_lt 0 (length (closed seat line.opened)) ≡ some
+          → (hung : Bool) → kept.hung ≡ hung
+          → P (if_open o (cond some reply.Closed
+          (cond hung reply.HungBefore (reply.Hung (suc kept.grants)))))
+      by None is some are hung on = not is
+      by (Some place) is true are hung on = others place is are
+      by (Some place) is false are true on = before place is are on
+      by (Some place) is false are false on = last place is are on

@@ -3,11 +3,17 @@ use Rattle.std.proofs.Common.{[], ◌≡◌, ◌⊎◌, inl, inr, ℕ, suc, ◌+
 use Rattle.std.proofs.Common.{List, ◌∷◌, ◌++◌, length, cond, eqb, get_or, take, drop, refl, sym}
 use Rattle.std.proofs.Common.{ap, ◌∙◌, ◌||◌, nat_lt, arith}
 use Rattle.std.proofs.Common.{Option, None, Some}
+use Rattle.std.specs.Prelude.{⊤, Result, Ok, Err, OnErr}
 use Rattle.std.specs.List.{AllByRecursion, remove}
 use Rattle.std.specs.Option.{IsSome, OnSome}
 use Rattle.std.proofs.lemmas.Bool.Decides.{nat_tests}
 use Rattle.std.proofs.lemmas.List.{at_drop_more}
-use Rattle.messages.specs.Lines.{stands_in, without}
+use Rattle.messages.specs.declared.line.OpenSeat.{OpenSeat}
+use Rattle.messages.specs.Lines.{Waiters, stands_in, without, first_served, served, in_line}
+use Rattle.messages.specs.Lines.{joined, closed, place_of, seats_of}
+
+some_same : (a b : ℕ) → Some a ≡ Some b → a ≡ b
+some_same a b is = cc
 
 -- ---- a search
 
@@ -88,7 +94,100 @@ stood_or_joined (x ∷ xs) seat other is =
     by true here further = inl (grind (arith, nat_tests))
     by false apart further = later apart (further (grind (arith, nat_tests)))
 
+-- ---- the open seats
+
+-- the grant to the first in line opens and closes nothing
+pub served_opened : (line : Waiters) → (served line).opened ≡ line.opened
+served_opened line = by line.waiting
+  where
+    by : (xs : List ℕ) → (first_served line xs).opened ≡ line.opened
+    by [] = refl
+    by (x ∷ xs) = refl
+
+-- nor does who joins the line
+pub in_line_opened : (place : ℕ) (line : Waiters) → (in_line place line).opened ≡ line.opened
+in_line_opened place line = by (stands_in line.waiting place)
+  where
+    by : (there : Bool) → (cond there line (joined place line)).opened ≡ line.opened
+    by true = refl
+    by false = refl
+
+-- what holds of each of them holds when one more opens
+pub all_opened : (P : OpenSeat → Type 0) (xs : List OpenSeat) (one : OpenSeat)
+    → AllByRecursion P xs → P one → AllByRecursion P (xs ++ one ∷ [])
+all_opened P [] one are is = (is, tt)
+all_opened P (x ∷ xs) one are is = (are.0, all_opened P xs one are.1 is)
+
+-- the seats of a list that one more joins
+pub seats_join : (xs : List OpenSeat) (one : OpenSeat)
+    → seats_of (xs ++ one ∷ []) ≡ seats_of xs ++ one.seat ∷ []
+seats_join [] one = refl
+seats_join (x ∷ xs) one = ap (λ (l : List ℕ). x.seat ∷ l) (seats_join xs one)
+
+-- there are as many seats as there are of these
+pub seats_length : (xs : List OpenSeat) → length (seats_of xs) ≡ length xs
+seats_length [] = refl
+seats_length (x ∷ xs) = omega (arith, seats_length xs)
+
+-- what a close finds: the place of an open seat, and one open seat fewer
+pub record HasLeft (P : OpenSeat → Type 0) (xs : List OpenSeat) (seat : ℕ) (o : Option ℕ)
+    (left : List OpenSeat) : Type 0 where
+  -- where the seat is open there is one fewer, and a place that some open seat has
+  pub was : (place : ℕ) → o ≡ Some place → (length left + 1 ≡ length xs)
+      × ((one : OpenSeat) × ((P one) × (one.place ≡ place)))
+  -- else there are as many as before
+  pub was_not : o ≡ None → length left ≡ length xs
+  -- of each that is left holds what held
+  pub all : AllByRecursion P left
+  -- and the seats are those that were there, without this one
+  pub seats : seats_of left ≡ without seat (seats_of xs)
+
+-- a close finds this in every list of open seats
+pub leaves : (P : OpenSeat → Type 0) (xs : List OpenSeat) (seat : ℕ) → AllByRecursion P xs
+    → HasLeft P xs seat (place_of seat xs) (closed seat xs)
+leaves P [] seat are =
+    record { was = λ place is. cc; was_not = λ is. refl; all = tt; seats = refl }
+leaves P (x ∷ xs) seat are = by (eqb x.seat seat) refl (leaves P xs seat are.1)
+  where
+    by : (b : Bool) → eqb x.seat seat ≡ b
+        → HasLeft P xs seat (place_of seat xs) (closed seat xs)
+        → HasLeft P (x ∷ xs) seat (cond b (Some x.place) (place_of seat xs))
+        (cond b xs (x ∷ closed seat xs))
+    by true is later = record {
+      was = λ place same. (omega arith, (x, (are.0, some_same x.place place same)));
+      was_not = λ not. cc;
+      all = are.1;
+      seats = sym (ap (λ b. cond b (seats_of xs) (x.seat ∷ without seat (seats_of xs))) is);
+    }
+    by false is later = record {
+      was = λ place same. let then = later.was place same in
+          let one = then.0 in (omega (arith, one), then.1);
+      was_not = λ not. let same = later.was_not not in omega (arith, same);
+      all = (are.0, later.all);
+      seats = ap (λ (l : List ℕ). x.seat ∷ l) later.seats
+          ∙ sym (ap (λ b. cond b (seats_of xs) (x.seat ∷ without seat (seats_of xs))) is);
+    }
+
+any_seats : (xs : List OpenSeat) → AllByRecursion (λ one. ⊤) xs
+any_seats [] = tt
+any_seats (x ∷ xs) = (tt, any_seats xs)
+
+-- one fewer is open where the seat was, and else as many as before
+pub length_closed : (xs : List OpenSeat) (seat place : ℕ) → place_of seat xs ≡ Some place
+    → length (closed seat xs) + 1 ≡ length xs
+length_closed xs seat place is = ((leaves (λ one. ⊤) xs seat (any_seats xs)).was place is).0
+
+-- a seat that is not open takes none away
+pub length_not_open : (xs : List OpenSeat) (seat : ℕ) → place_of seat xs ≡ None
+    → length (closed seat xs) ≡ length xs
+length_not_open xs seat is = (leaves (λ one. ⊤) xs seat (any_seats xs)).was_not is
+
 -- ---- cases
+
+-- what holds in any case holds of a refusal
+pub on_err : {A E P : Type 0} (r : Result A E) → P → OnErr r P
+on_err (Ok a) p = tt
+on_err (Err e) p = p
 
 -- what holds where there is a value, of a value
 pub where_some : {A P : Type 0} (o : Option A) → IsSome o → OnSome o P → P

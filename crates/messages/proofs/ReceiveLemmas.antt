@@ -21,11 +21,11 @@ use Rattle.messages.specs.Receiving.{IsAnswered, IsLeftWith, Takes, receiving}
 use Rattle.messages.specs.Waking.{IsOfRow}
 use Rattle.messages.proofs.SendLemmas.{named_there}
 
-module _ {T : Type 0} (channel : Channel T) (number : ℕ) where
+module _ {T : Type 0} (channel : Channel T) (place : ℕ) (number : ℕ) where
   abbrev HasNumber : HandleSeat T → Type 0
   HasNumber seat = number_of seat ≡ number
 
-  -- whoever is still to be woken is one of the seats
+  -- whoever is still to be woken is at one of the places
   abbrev pub IsThere : Result (Got T) Fault → Type 0
   IsThere (Ok got) = IfSome got.wake (IsOfRow channel)
   IsThere (Err why) = ⊤
@@ -34,11 +34,11 @@ module _ {T : Type 0} (channel : Channel T) (number : ℕ) where
   pub record IsOver (answer : Result (Got T) Fault) (seat : HandleSeat T) : Type 0 where
     -- it has the number that it had
     pub number_is : number_of seat ≡ number
-    -- who is to be woken is a seat
+    -- who is to be woken is at a place
     pub there : IsThere answer
 
   refused : (old new : Point (HandleSeat T)) (why : Fault) → HasNumber old.seat
-      → Takes channel old (Refused why) new → IsOver (Err why) new.seat
+      → Takes channel place old (Refused why) new → IsOver (Err why) new.seat
   refused old new fault.Worn has takes =
       record { number_is = takes.asks.number ∙ has; there = tt }
   refused old new fault.Hungup has takes = absurd takes
@@ -58,12 +58,12 @@ module _ {T : Type 0} (channel : Channel T) (number : ℕ) where
   refused old new fault.Device has takes = absurd takes
 
   same_number : (old new : Point (HandleSeat T)) (outcome : Received T)
-      → IsAnswered channel true old outcome new → number_of new.seat ≡ number_of old.seat
+      → IsAnswered channel place true old outcome new → number_of new.seat ≡ number_of old.seat
   same_number old new (received.Value value) given = given.asks.number
   same_number old new received.End takes = takes.asks.number
 
   answered : (old new : Point (HandleSeat T)) (answer : Result (Got T) Fault) → HasNumber old.seat
-      → Takes channel old (reply_of answer) new → IsOver answer new.seat
+      → Takes channel place old (reply_of answer) new → IsOver answer new.seat
   answered old new (Ok got) has takes =
       record {
         number_is = same_number old new got.received takes.0 ∙ has;
@@ -72,7 +72,7 @@ module _ {T : Type 0} (channel : Channel T) (number : ℕ) where
   answered old new (Err why) has takes = refused old new why has takes
 
   left_with : (old new : HandleSeat T) (outcome : Received T) (wake : Option Wake) → HasNumber old
-      → IsLeftWith channel old outcome wake new
+      → IsLeftWith channel place old outcome wake new
       → (number_of new ≡ number) × IfSome wake (IsOfRow channel)
   left_with old new (received.Value value) wake has left =
       (left.number ∙ has, named_there channel _ (reply.Value value wake) old new left)
@@ -83,10 +83,10 @@ module _ {T : Type 0} (channel : Channel T) (number : ℕ) where
 
   waited_over : (rendez : RendezId) (before after : Point (HandleSeat T))
       (told : Result (Got T) Fault) → HasNumber before.seat
-      → Waited (receiving channel) rendez before told after → IsOver told after.seat
+      → Waited (receiving channel place) rendez before told after → IsOver told after.seat
   waited_over rendez before after told has (inl begun) = answered before after told has begun
   waited_over rendez before after told has (inr waits) =
-      wait_ends (receiving channel) rendez HasNumber IsOver
+      wait_ends (receiving channel place) rendez HasNumber IsOver
       (λ old new grants on takes. takes.asks.number ∙ on)
       (λ old new answer on takes. answered old new answer on takes)
       (λ old new got on left.
@@ -95,12 +95,12 @@ module _ {T : Type 0} (channel : Channel T) (number : ℕ) where
       (λ old new why on left. record { number_is = left.number ∙ on; there = tt })
       waits.first told after (waits.begun.asks.number ∙ has) waits.waited
 
-module _ {T : Type 0} (channel : Channel T) where
+module _ {T : Type 0} (channel : Channel T) (place : ℕ) where
   same_over : (number : ℕ) (told answer : Result (Got T) Fault) (seat : HandleSeat T)
-      → ComesToSame told answer → IsOver channel number told seat
-      → IsOver channel number answer seat
+      → ComesToSame told answer → IsOver channel place number told seat
+      → IsOver channel place number answer seat
   same_over number (Ok one) (Ok other) seat same over =
-      subst (λ got. IsOver channel number (Ok got) seat) (sym same) over
+      subst (λ got. IsOver channel place number (Ok got) seat) (sym same) over
   same_over number (Err why) (Err other) seat same over =
       record { number_is = over.number_is; there = tt }
   same_over number (Ok one) (Err other) seat same over = absurd same
@@ -108,9 +108,9 @@ module _ {T : Type 0} (channel : Channel T) where
 
   -- and so it is by whatever runner
   pub is_over : (rendez : RendezId) (before after : Point (HandleSeat T))
-      (answer : Result (Got T) Fault) → IsACall (receiving channel) rendez before answer after
-      → IsOver channel (number_of before.seat) answer after.seat
+      (answer : Result (Got T) Fault) → IsACall (receiving channel place) rendez before answer after
+      → IsOver channel place (number_of before.seat) answer after.seat
   is_over rendez before after answer call =
       same_over (number_of before.seat) call.told answer after.seat call.same
-      (waited_over channel (number_of before.seat) rendez before
+      (waited_over channel place (number_of before.seat) rendez before
       (record { seat = after.seat; process = call.process }) call.told refl call.waited)

@@ -9,7 +9,7 @@ use Rattle.waiting.proofs.Cases.{same_or_not}
 use Rattle.waiting.proofs.WakeupLemmas.{returned_release}
 use Rattle.waiting.specs.Wakeups.{Wakeup, WakesEach}
 use Rattle.messages.specs.declared.channel.Channel.{Channel}
-use Rattle.messages.specs.Handles.{rendez_of_seat}
+use Rattle.messages.specs.Handles.{rendez_of_place}
 use Rattle.messages.specs.WakeLaws.{GrantsRelease, HangupsRelease}
 use Rattle.messages.specs.Waking.{WakesAll}
 
@@ -17,7 +17,7 @@ use Rattle.messages.specs.Waking.{WakesAll}
 pub grants_release : (T : Type 0) → GrantsRelease T
 grants_release T sizes s shows channel wake before after woken gone =
     (returned_release sizes s shows
-    (record { rendez = rendez_of_seat channel wake.seat; level = wake.number } ∷ []) before after
+    (record { rendez = rendez_of_place channel wake.place; level = wake.number } ∷ []) before after
     (record { between = before; others = refl; last = woken }) gone).0
 
 module _ {T : Type 0} (channel : Channel T) (number : ℕ) where
@@ -25,7 +25,7 @@ module _ {T : Type 0} (channel : Channel T) (number : ℕ) where
   abbrev wakeups : ℕ → List Wakeup
   wakeups zero = []
   wakeups (suc count) =
-      record { rendez = rendez_of_seat channel count; level = number } ∷ wakeups count
+      record { rendez = rendez_of_place channel count; level = number } ∷ wakeups count
 
   wakes_each : (count : ℕ) (before after : Process) → WakesAll channel count number before after
       → WakesEach (wakeups count) before after
@@ -39,17 +39,17 @@ module _ {T : Type 0} (channel : Channel T) (number : ℕ) where
 
   one_of : (Holds : Wakeup → Type 0) (count seat : ℕ) → seat < count
       → AllByRecursion Holds (wakeups count)
-      → Holds (record { rendez = rendez_of_seat channel seat; level = number })
+      → Holds (record { rendez = rendez_of_place channel seat; level = number })
   one_of Holds zero seat below all = absurd (omega (arith, below))
   one_of Holds (suc count) seat below all =
       by (same_or_not seat count) (one_of Holds count seat)
     where
       by : (seat ≡ count) ⊎ (seat ≢ count)
           → (seat < count → AllByRecursion Holds (wakeups count)
-          → Holds (record { rendez = rendez_of_seat channel seat; level = number }))
-          → Holds (record { rendez = rendez_of_seat channel seat; level = number })
+          → Holds (record { rendez = rendez_of_place channel seat; level = number }))
+          → Holds (record { rendez = rendez_of_place channel seat; level = number })
       by (inl same) others =
-          subst (λ n. Holds (record { rendez = rendez_of_seat channel n; level = number }))
+          subst (λ n. Holds (record { rendez = rendez_of_place channel n; level = number }))
           (sym same) all.0
       by (inr other) others = others (omega (arith, below, other)) all.1
 

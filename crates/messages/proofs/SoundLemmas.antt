@@ -1,19 +1,22 @@
 -- What each call keeps of those who wait.
-use Rattle.std.proofs.Common.{◌≡◌, ◌<◌, ◌≤◌, ℕ, ◌+◌, Bool, true, false, ◌||◌, ◌&&◌}
-use Rattle.std.proofs.Common.{List, [], ◌∷◌, ◌++◌, length, drop, nat_lt, refl, ap, ◌∙◌, subst}
+use Rattle.std.proofs.Common.{◌≡◌, ◌<◌, ◌≤◌, ℕ, zero, suc, ◌+◌, Bool, true, false, ◌||◌, ◌&&◌}
+use Rattle.std.proofs.Common.{Option, None, Some}
+use Rattle.messages.specs.declared.line.OpenSeat.{OpenSeat}
+use Rattle.std.proofs.Common.{List, [], ◌∷◌, ◌++◌, length, drop, nat_lt, refl, sym, ap, ◌∙◌, subst}
 use Rattle.std.proofs.Common.{arith}
 use Rattle.std.specs.List.{AllByRecursion}
 use Rattle.std.proofs.lemmas.Bool.Decides.{nat_tests}
 use Rattle.messages.specs.declared.limits.TheConstants.{LAST_GRANT}
 use Rattle.std.proofs.Common.{if◌then◌else◌}
 use Rattle.messages.specs.Lines.{Waiters, stands_in, without, first_served, served, gone, in_line}
-use Rattle.messages.specs.Lines.{joined}
+use Rattle.messages.specs.Lines.{joined, place_of, closed, with_seat}
 use Rattle.messages.specs.MessageObject.{Contents, one_more, can_put, can_take, has_number}
-use Rattle.messages.specs.MessageObject.{may_wait}
+use Rattle.messages.specs.MessageObject.{may_wait, given_back, sender_closed, receiver_closed}
+use Rattle.messages.specs.MessageObject.{places_below}
 use Rattle.messages.specs.MessageObject.{accepted, taken, sender_gone, receiver_gone, opening}
 use Rattle.messages.specs.Soundness.{IsLine, IsSound}
 use Rattle.messages.proofs.LineLemmas.{length_without, length_most, not_there, all_without}
-use Rattle.messages.proofs.LineLemmas.{length_join, all_join}
+use Rattle.messages.proofs.LineLemmas.{length_join, all_join, all_opened, HasLeft, leaves}
 
 -- ---- one side
 
@@ -32,6 +35,8 @@ pub record IsServed (line new : Waiters) (grants grants_new : ℕ) : Type 0 wher
   pub one : 0 < length line.waiting → length new.granted ≡ length line.granted + 1
   -- no more wait than before
   pub fewer : length new.waiting ≤ length line.waiting
+  -- as many are open as before
+  pub opened : new.opened ≡ line.opened
   -- who waits did so before
   pub among : (bound : ℕ) → AllByRecursion (λ s. s < bound) line.waiting
       → AllByRecursion (λ s. s < bound) new.waiting
@@ -52,6 +57,7 @@ serves line grants = by line.waiting refl
           most = omega arith;
           one = λ some. omega (arith, none, some);
           fewer = omega arith;
+          opened = refl;
           among = λ bound are. are;
         }
     by (x ∷ xs) is =
@@ -64,6 +70,7 @@ serves line grants = by line.waiting refl
           most = omega (arith, more);
           one = λ some. more;
           fewer = omega (arith, long);
+          opened = refl;
           among = λ bound are. (subst (AllByRecursion (λ s. s < bound)) is are).1;
         }
 
@@ -101,6 +108,7 @@ line_gone handles line seat is =
       seats_are = is.seats_are;
       among = all_without handles line.waiting seat is.among;
       few = omega (arith, few, waiting, granted);
+      placed = is.placed;
     }
 
 line_served : (handles grants : ℕ) (line : Waiters) → IsLine handles line
@@ -113,6 +121,7 @@ line_served handles grants line is =
       seats_are = same.seats ∙ is.seats_are;
       among = same.among handles is.among;
       few = omega (arith, few, both);
+      placed = subst (AllByRecursion (λ one. one.place < handles)) (sym same.opened) is.placed;
     }
 
 -- ---- the queue
@@ -165,10 +174,14 @@ module _ {T : Type 0} (handles : ℕ) (kept : Contents T) (sound : IsSound handl
           let numbers = sound.numbers in
           let same = more.numbers in
           let fewer = less.waiting in
+          let places = sound.places in
+          let opened = ap (λ (l : List OpenSeat). length l) more.opened in
           record {
             room = omega (arith, room, longer);
             values = omega (arith, values, most, longer);
             numbers = omega (arith, numbers, same, fewer);
+            places = omega (arith, places, opened);
+            free = sound.free;
             senders = line_gone handles kept.senders seat sound.senders;
             receivers = line_served handles kept.grants kept.receivers sound.receivers;
           }
@@ -244,10 +257,14 @@ module _ {T : Type 0} (handles : ℕ) (kept : Contents T) (sound : IsSound handl
             let numbers = sound.numbers in
             let same = more.numbers in
             let fewer = less.waiting in
+            let places = sound.places in
+            let opened = ap (λ (l : List OpenSeat). length l) more.opened in
             record {
               room = omega (arith, room, most, short);
               values = values;
               numbers = omega (arith, numbers, same, fewer);
+              places = omega (arith, places, opened);
+              free = sound.free;
               senders = line_served handles kept.grants kept.senders sound.senders;
               receivers = line_gone handles kept.receivers seat sound.receivers;
             }
@@ -326,6 +343,8 @@ module _ {T : Type 0} (handles : ℕ) (kept : Contents T) (sound : IsSound handl
         room = omega (arith, room, granted);
         values = sound.values;
         numbers = omega (arith, numbers, waiting);
+        places = sound.places;
+        free = sound.free;
         senders = line_gone handles kept.senders seat sound.senders;
         receivers = sound.receivers;
       }
@@ -355,6 +374,8 @@ module _ {T : Type 0} (handles : ℕ) (kept : Contents T) (sound : IsSound handl
         room = sound.room;
         values = omega (arith, values, granted);
         numbers = omega (arith, numbers, waiting);
+        places = sound.places;
+        free = sound.free;
         senders = sound.senders;
         receivers = line_gone handles kept.receivers seat sound.receivers;
       }
@@ -417,6 +438,8 @@ module _ {T : Type 0} (handles : ℕ) (kept : Contents T) (sound : IsSound handl
         room = sound.room;
         values = sound.values;
         numbers = sound.numbers;
+        places = sound.places;
+        free = sound.free;
         senders = sound.senders;
         receivers = sound.receivers;
       }
@@ -425,17 +448,21 @@ module _ {T : Type 0} (handles : ℕ) (kept : Contents T) (sound : IsSound handl
           let longer = length_join kept.senders.waiting seat in
           let numbers = where_to.1.1 in
           let free = where_to.1.0 in
-          let seats = sound.senders.seats_are in
+          let was = sound.senders in
+          let seats = was.seats_are in
           let below = where_to.0 in
           record {
             room = sound.room;
             values = sound.values;
             numbers = omega (arith, numbers, longer);
+            places = sound.places;
+            free = sound.free;
             senders = record {
               seats_are = seats;
               among = all_join handles kept.senders.waiting seat sound.senders.among
                   (omega (arith, below, seats));
               few = omega (arith, free, longer, seats);
+              placed = was.placed;
             };
             receivers = sound.receivers;
           }
@@ -453,6 +480,8 @@ module _ {T : Type 0} (handles : ℕ) (kept : Contents T) (sound : IsSound handl
         room = sound.room;
         values = sound.values;
         numbers = sound.numbers;
+        places = sound.places;
+        free = sound.free;
         senders = sound.senders;
         receivers = sound.receivers;
       }
@@ -461,18 +490,22 @@ module _ {T : Type 0} (handles : ℕ) (kept : Contents T) (sound : IsSound handl
           let longer = length_join kept.receivers.waiting seat in
           let numbers = where_to.1.1 in
           let free = where_to.1.0 in
-          let seats = sound.receivers.seats_are in
+          let was = sound.receivers in
+          let seats = was.seats_are in
           let below = where_to.0 in
           record {
             room = sound.room;
             values = sound.values;
             numbers = omega (arith, numbers, longer);
+            places = sound.places;
+            free = sound.free;
             senders = sound.senders;
             receivers = record {
               seats_are = seats;
               among = all_join handles kept.receivers.waiting seat sound.receivers.among
                   (omega (arith, below, seats));
               few = omega (arith, free, longer, seats);
+              placed = was.placed;
             };
           }
 
@@ -503,16 +536,169 @@ module _ {T : Type 0} (handles : ℕ) (kept : Contents T) (sound : IsSound handl
           let most = (neither (length kept.receivers.granted) (length kept.values) _ none).0 in
           record { senders = waits.senders; receivers = λ some. most }
 
+-- ---- a seat opens or closes
+
+module _ {T : Type 0} (handles : ℕ) (kept : Contents T) (sound : IsSound handles kept)
+    (seat : ℕ) where
+  -- one side, and the free places, when a seat opens at a place
+  line_opened : (line : Waiters) (place : ℕ) → IsLine handles line → place < handles
+      → IsLine handles (with_seat seat place line)
+  line_opened line place is below =
+      record {
+        seats_are = is.seats_are;
+        among = is.among;
+        few = is.few;
+        placed = all_opened (λ one. one.place < handles) line.opened
+            (record { seat = seat; place = place }) is.placed below;
+      }
+
+  module _ (place : ℕ) (rest : List ℕ) (are : kept.free ≡ place ∷ rest) where
+    fewer_free : length (drop 1 kept.free) + 1 ≡ length kept.free
+    fewer_free = rw are (omega arith)
+
+    first_below : (place < handles) × AllByRecursion (λ p. p < handles) (drop 1 kept.free)
+    first_below =
+        let all = subst (AllByRecursion (λ p. p < handles)) are sound.free in
+        (all.0, rw are all.1)
+
+    -- a queue at which a sender opens is sound
+    pub sender_opens_sound : IsSound handles
+        (record kept { senders = with_seat seat place kept.senders; free = drop 1 kept.free })
+    sender_opens_sound =
+        let places = sound.places in
+        let one = fewer_free in
+        let more = length_join kept.senders.opened (record { seat = seat; place = place }) in
+        record {
+          room = sound.room;
+          values = sound.values;
+          numbers = sound.numbers;
+          places = omega (arith, places, one, more);
+          free = first_below.1;
+          senders = line_opened kept.senders place sound.senders first_below.0;
+          receivers = sound.receivers;
+        }
+
+    -- and one at which a receiver opens
+    pub receiver_opens_sound : IsSound handles
+        (record kept { receivers = with_seat seat place kept.receivers; free = drop 1 kept.free })
+    receiver_opens_sound =
+        let places = sound.places in
+        let one = fewer_free in
+        let more = length_join kept.receivers.opened (record { seat = seat; place = place }) in
+        record {
+          room = sound.room;
+          values = sound.values;
+          numbers = sound.numbers;
+          places = omega (arith, places, one, more);
+          free = first_below.1;
+          senders = sound.senders;
+          receivers = line_opened kept.receivers place sound.receivers first_below.0;
+        }
+
+  -- what becomes of a side and of the free places when a seat closes
+  record Closing (line : Waiters) : Type 0 where
+    -- as many places are free or open as before
+    pub count : length (given_back (place_of seat line.opened) kept.free)
+        + length (closed seat line.opened) ≡ length kept.free + length line.opened
+    -- each that is free is one of the queue's
+    pub free : AllByRecursion (λ p. p < handles)
+        (given_back (place_of seat line.opened) kept.free)
+    -- and so is that of each seat that is open
+    pub placed : AllByRecursion (λ one. one.place < handles) (closed seat line.opened)
+
+  closing : (line : Waiters) → IsLine handles line → Closing line
+  closing line is = record {
+    count = (by (place_of seat line.opened) refl).0;
+    free = (by (place_of seat line.opened) refl).1;
+    placed = left.all;
+  }
+    where
+      left : HasLeft (λ one. one.place < handles) line.opened seat (place_of seat line.opened)
+          (closed seat line.opened)
+      left = leaves (λ one. one.place < handles) line.opened seat is.placed
+
+      by : (o : Option ℕ) → place_of seat line.opened ≡ o
+          → (length (given_back o kept.free) + length (closed seat line.opened) ≡
+          length kept.free + length line.opened)
+          × AllByRecursion (λ p. p < handles) (given_back o kept.free)
+      by None not = let same = left.was_not not in (omega (arith, same), sound.free)
+      by (Some place) at =
+          let was = left.was place at in
+          let one = was.0 in
+          let more = length_join kept.free place in
+          let below : place < handles = subst (λ p. p < handles) was.1.1.1 was.1.1.0 in
+          (omega (arith, one, more), all_join handles kept.free place sound.free below)
+
+  -- a queue at which a sender closes is sound
+  pub sender_closes_sound : IsSound handles (sender_closed kept seat)
+  sender_closes_sound =
+      let close = closing kept.senders sound.senders in
+      let places = sound.places in
+      let count = close.count in
+      record {
+        room = sound.room;
+        values = sound.values;
+        numbers = sound.numbers;
+        places = omega (arith, places, count);
+        free = close.free;
+        senders = record {
+          seats_are = sound.senders.seats_are;
+          among = sound.senders.among;
+          few = sound.senders.few;
+          placed = close.placed;
+        };
+        receivers = sound.receivers;
+      }
+
+  -- and one at which a receiver closes
+  pub receiver_closes_sound : IsSound handles (receiver_closed kept seat)
+  receiver_closes_sound =
+      let close = closing kept.receivers sound.receivers in
+      let places = sound.places in
+      let count = close.count in
+      record {
+        room = sound.room;
+        values = sound.values;
+        numbers = sound.numbers;
+        places = omega (arith, places, count);
+        free = close.free;
+        senders = sound.senders;
+        receivers = record {
+          seats_are = sound.receivers.seats_are;
+          among = sound.receivers.among;
+          few = sound.receivers.few;
+          placed = close.placed;
+        };
+      }
+
 -- ---- a new queue
+
+-- there are so many places below a number
+pub below_length : (count : ℕ) → length (places_below count) ≡ count
+below_length zero = refl
+below_length (suc count) =
+    let more = length_join (places_below count) count in
+    let same = below_length count in
+    omega (arith, more, same)
+
+below_all : (bound count : ℕ) → count ≤ bound
+    → AllByRecursion (λ p. p < bound) (places_below count)
+below_all bound zero most = tt
+below_all bound (suc count) most =
+    all_join bound (places_below count) count (below_all bound count (omega (arith, most)))
+    (omega (arith, most))
 
 -- a new queue is sound, as nobody waits
 pub opening_sound : {T : Type 0} (capacity handles : ℕ)
     → IsSound handles (opening {T = T} capacity handles)
 opening_sound capacity handles =
+    let free = below_length handles in
     record {
       room = omega arith;
       values = omega arith;
       numbers = omega arith;
-      senders = record { seats_are = refl; among = tt; few = omega arith };
-      receivers = record { seats_are = refl; among = tt; few = omega arith };
+      places = omega (arith, free);
+      free = below_all handles handles (omega arith);
+      senders = record { seats_are = refl; among = tt; few = omega arith; placed = tt };
+      receivers = record { seats_are = refl; among = tt; few = omega arith; placed = tt };
     }

@@ -6,6 +6,7 @@ use Rattle.kernel_lock.specs.declared.locked.Locked.{Locked}
 use Rattle.kernel_lock.specs.Seats.{IsSeatOf, SeesHistory, Applies}
 use Rattle.kernel_lock.specs.Seats.{limit_of, number_of, opening_of}
 use Rattle.messages.specs.declared.channel.Channel.{Channel}
+use Rattle.messages.specs.declared.limits.TheConstants.{MAX_SEATS}
 use Rattle.messages.specs.declared.message_object.MessageCall.{MessageCall}
 use Rattle.messages.specs.declared.message_object.MessageReply.{MessageReply}
 use Rattle.messages.specs.MessageObject.{Contents, opening, answer_to, message_definition}
@@ -19,12 +20,12 @@ abbrev pub HandleSeat : Type 0 → Type 0
 HandleSeat T = LockSeat (Contents T) (MessageCall T) (MessageReply T)
 
 module _ {T : Type 0} where
-  -- the lock guards a queue that was new, for this many handles, each with a seat
+  -- the lock guards a queue that was new, with places for this many handles
   pub record IsQueueLock (lock : QueueLock T) (handles : ℕ) : Type 0 where
     pub capacity : ℕ
     pub few : handles ≤ MAX_PROCS
     pub opening_is : opening_of message_definition lock ≡ opening capacity handles
-    pub limit : limit_of lock ≡ handles
+    pub limit : limit_of lock ≡ MAX_SEATS
 
   -- the seat is one of the queue's, and has seen a legal history, with each of its own calls in it
   -- once

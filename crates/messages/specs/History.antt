@@ -1,15 +1,20 @@
 -- The history of a queue of values: its calls with their replies, newest first, and what they add
 -- up to.
-use Rattle.std.specs.Prelude.{ℕ, Bool, true, false, List, [], ◌∷◌, ◌++◌, Option, None, Some}
+use Rattle.std.specs.Prelude.{◌≡◌, ◌⊎◌, ℕ, Bool, true, false, List, [], ◌∷◌, ◌++◌}
+use Rattle.std.specs.Prelude.{Option, None, Some}
 use Rattle.histories.specs.History.{Meaning}
 use Rattle.kernel_lock.specs.declared.view.Operation.{Operation}
 use Rattle.kernel_lock.specs.Definition.{meaning_of}
 use Rattle.messages.specs.declared.message_object.MessageCall.{MessageCall}
 use Rattle.messages.specs.declared.message_object.MessageCall.TheVariants.{Put, Take, LeaveSender}
 use Rattle.messages.specs.declared.message_object.MessageCall.TheVariants.{LeaveReceiver, Hang}
+use Rattle.messages.specs.declared.message_object.MessageCall.TheVariants.{Open, Close}
 use Rattle.messages.specs.declared.message_object.MessageReply.{MessageReply}
 use Rattle.messages.specs.declared.message_object.MessageReply.TheVariants as reply
+use Rattle.messages.specs.declared.message_object.Side.{Side}
+use Rattle.messages.specs.declared.message_object.Side.TheVariants.{Senders, Receivers}
 use Rattle.messages.specs.declared.message_object.Wake.{Wake}
+use Rattle.messages.specs.Lines.{without}
 use Rattle.messages.specs.MessageObject.{Contents, message_definition}
 
 -- one call: the number of the seat that made it, and its answer
@@ -29,14 +34,14 @@ module _ {T : Type 0} where
 
   -- the value that was accepted by this call, or none
   abbrev pub sent_by : MessageCall T → MessageReply T → List T
-  sent_by (Put seat value wait) (reply.Accepted wake) = value ∷ []
-  sent_by (LeaveSender seat value) (reply.Accepted wake) = value ∷ []
+  sent_by (Put seat place value wait) (reply.Accepted wake) = value ∷ []
+  sent_by (LeaveSender seat place value) (reply.Accepted wake) = value ∷ []
   sent_by call other = []
 
   -- the value that was received by this call, or none
   abbrev pub received_by : MessageCall T → MessageReply T → List T
-  received_by (Take seat wait) (reply.Value value wake) = value ∷ []
-  received_by (LeaveReceiver seat) (reply.Value value wake) = value ∷ []
+  received_by (Take seat place wait) (reply.Value value wake) = value ∷ []
+  received_by (LeaveReceiver seat place) (reply.Value value wake) = value ∷ []
   received_by call other = []
 
   -- all values that were accepted, the first one first
@@ -49,19 +54,47 @@ module _ {T : Type 0} where
   received [] = []
   received (entry ∷ past) = received past ++ received_by entry.request entry.reply
 
-  -- ---- a hangup
+  -- ---- the end
 
   -- whether a hangup is among them
   abbrev pub hung_by : MessageCall T → Bool → Bool
   hung_by Hang before = true
-  hung_by (Put seat value wait) before = before
-  hung_by (Take seat wait) before = before
-  hung_by (LeaveSender seat value) before = before
-  hung_by (LeaveReceiver seat) before = before
+  hung_by call before = before
 
   abbrev pub is_hung : List (MessageEntry T) → Bool
   is_hung [] = false
   is_hung (entry ∷ past) = hung_by entry.request (is_hung past)
+
+  -- the seats that are open on this side: those that were opened and have not closed
+  abbrev pub open_by : Side → MessageCall T → MessageReply T → List ℕ → List ℕ
+  open_by Senders (Open Senders seat) (reply.Opened place) before = before ++ seat ∷ []
+  open_by Senders (Close Senders seat) answer before = without seat before
+  open_by Receivers (Open Receivers seat) (reply.Opened place) before = before ++ seat ∷ []
+  open_by Receivers (Close Receivers seat) answer before = without seat before
+  open_by side call answer before = before
+
+  abbrev pub open_seats : Side → List (MessageEntry T) → List ℕ
+  open_seats side [] = []
+  open_seats side (entry ∷ past) = open_by side entry.request entry.reply (open_seats side past)
+
+  -- whether a seat was opened on this side
+  abbrev pub used_by : Side → MessageCall T → MessageReply T → Bool → Bool
+  used_by Senders (Open Senders seat) (reply.Opened place) before = true
+  used_by Receivers (Open Receivers seat) (reply.Opened place) before = true
+  used_by side call answer before = before
+
+  abbrev pub was_used : Side → List (MessageEntry T) → Bool
+  was_used side [] = false
+  was_used side (entry ∷ past) = used_by side entry.request entry.reply (was_used side past)
+
+  -- each seat that was opened on this side has closed
+  abbrev pub HasClosed : Side → List (MessageEntry T) → Type 0
+  HasClosed side past = (was_used side past ≡ true) × (open_seats side past ≡ [])
+
+  -- the queue was hung up, or one of its sides has closed
+  abbrev pub IsOver : List (MessageEntry T) → Type 0
+  IsOver past =
+      (is_hung past ≡ true) ⊎ (HasClosed Senders past ⊎ HasClosed Receivers past)
 
   -- ---- who waits, and who is woken
 

@@ -1,4 +1,5 @@
 pub mod Asking
+pub mod Counting
 pub mod Handles
 pub mod HangingUp
 pub mod History

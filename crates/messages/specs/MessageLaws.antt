@@ -1,10 +1,15 @@
 -- What holds of a queue of values after every legal history, said of the definitions alone.
-use Rattle.std.specs.Prelude.{◌≡◌, ◌≢◌, ◌≤◌, ◌<◌, ◌⊎◌, ◌+◌, ℕ, true, false, List, [], ◌∷◌, ◌++◌}
+use Rattle.std.specs.Prelude.{◌≡◌, ◌≢◌, ◌≤◌, ◌<◌, ◌⊎◌, ◌↔◌, ◌+◌, ℕ, suc, true, false, List}
+use Rattle.std.specs.Prelude.{[], ◌∷◌, ◌++◌}
 use Rattle.std.specs.Prelude.{length, Some, IfSome}
 use Rattle.std.specs.List.{AllByRecursion}
 use Rattle.histories.specs.History.{state_after, IsLegal}
+use Rattle.messages.specs.declared.message_object.MessageCall.TheVariants.{Close, Open}
 use Rattle.messages.specs.declared.message_object.MessageReply.TheVariants as reply
-use Rattle.messages.specs.History.{MessageEntry, message_meaning, sent, received, is_hung}
+use Rattle.messages.specs.declared.message_object.Side.{Side}
+use Rattle.messages.specs.declared.message_object.Side.TheVariants.{Senders, Receivers}
+use Rattle.messages.specs.History.{MessageEntry, message_meaning, sent, received}
+use Rattle.messages.specs.History.{IsOver, open_seats}
 use Rattle.messages.specs.History.{named_by, told_number, waking_number}
 use Rattle.messages.specs.Lines.{stands_in}
 use Rattle.messages.specs.MessageObject.{Contents, opening}
@@ -39,33 +44,53 @@ module _ (T : Type 0) where
   abbrev pub NeverOverfull : Type 0
   NeverOverfull = AlwaysHolds (λ capacity handles past kept. length kept.values ≤ capacity)
 
-  -- ---- a hangup
+  -- ---- the end
 
-  -- nothing is accepted after a hangup
+  -- a queue is hung up just where it was by a call, or where each seat of a side has closed
+  abbrev pub EndsWithASide : Type 0
+  EndsWithASide = AlwaysHolds (λ capacity handles past kept. kept.hung ≡ true ↔ IsOver past)
+
+  -- the last seat of a side that closes before the end is told a number to wake all with
+  abbrev pub LastCloseWakes : Type 0
+  LastCloseWakes =
+      EachCall (λ entry past before after. (side : Side) (seat : ℕ)
+      → entry.request ≡ Close side seat → open_seats side past ≡ seat ∷ [] → (¬ IsOver past)
+      → entry.reply ≡ reply.Hung (suc before.grants))
+
+  -- a seat is refused only where as many are open as there are places, or where none of its side is
+  -- open any more after the end
+  abbrev pub PlacesComeBack : Type 0
+  PlacesComeBack =
+      EachCall (λ entry past before after. (side : Side) (seat : ℕ)
+      → entry.request ≡ Open side seat → entry.reply ≡ reply.NoPlace
+      → (length (open_seats Senders past) + length (open_seats Receivers past) ≡
+      before.senders.seats) ⊎ (IsOver past × (open_seats side past ≡ [])))
+
+  -- nothing is accepted after the end
   abbrev pub NothingAfterHangup : Type 0
   NothingAfterHangup =
       AlwaysHolds (λ capacity handles past kept. (entry : MessageEntry T)
       → IsLegal message_meaning (opening capacity handles) (entry ∷ past)
-      → is_hung past ≡ true → sent (entry ∷ past) ≡ sent past)
+      → IsOver past → sent (entry ∷ past) ≡ sent past)
 
-  -- a value is refused as Hungup only after a hangup
+  -- a value is refused as Hungup only after it
   abbrev pub RefusedAfterHangup : Type 0
   RefusedAfterHangup =
       EachCall (λ entry past before after. (value : T) → entry.reply ≡ reply.Hungup value
-      → is_hung past ≡ true)
+      → IsOver past)
 
-  -- the end is told only after a hangup, when each value that was accepted was received or was
-  -- granted to a receiver that has yet to come for it
+  -- the end is told only after it, when each value that was accepted was received or was granted
+  -- to a receiver that has yet to come for it
   abbrev pub EndIsAfterAll : Type 0
   EndIsAfterAll =
       EachCall (λ entry past before after. entry.reply ≡ reply.End
-      → (is_hung past ≡ true) × (length before.values ≤ length before.receivers.granted))
+      → IsOver past × (length before.values ≤ length before.receivers.granted))
 
-  -- one hangup is the first
+  -- one hangup, or one close, is the first
   abbrev pub OneHangupIsFirst : Type 0
   OneHangupIsFirst =
       EachCall (λ entry past before after. (number : ℕ) → entry.reply ≡ reply.Hung number
-      → is_hung past ≡ false)
+      → ¬ IsOver past)
 
   -- ---- who waits
 
@@ -84,18 +109,18 @@ module _ (T : Type 0) where
       × (kept.receivers.waiting ≢ []
       → length kept.values ≡ length kept.receivers.granted))
 
-  -- the answer names this seat to be woken, with the number of the last grant
-  pub record IsNamed (entry : MessageEntry T) (after : Contents T) (seat : ℕ) : Type 0 where
-    pub named : named_by entry.reply ≡ Some (record { seat = seat; number = after.grants })
+  -- the answer names this place to be woken, with the number of the last grant
+  pub record IsNamed (entry : MessageEntry T) (after : Contents T) (place : ℕ) : Type 0 where
+    pub named : named_by entry.reply ≡ Some (record { place = place; number = after.grants })
 
   -- whoever is granted room or a value is named to be woken by the answer that grants it
   abbrev pub EachGrantIsNamed : Type 0
   EachGrantIsNamed =
-      EachCall (λ entry past before after. (seat : ℕ)
-      → (stands_in after.senders.granted seat ≡ true
-      → (stands_in before.senders.granted seat ≡ true) ⊎ IsNamed entry after seat)
-      × (stands_in after.receivers.granted seat ≡ true
-      → (stands_in before.receivers.granted seat ≡ true) ⊎ IsNamed entry after seat))
+      EachCall (λ entry past before after. (place : ℕ)
+      → (stands_in after.senders.granted place ≡ true
+      → (stands_in before.senders.granted place ≡ true) ⊎ IsNamed entry after place)
+      × (stands_in after.receivers.granted place ≡ true
+      → (stands_in before.receivers.granted place ≡ true) ⊎ IsNamed entry after place))
 
   -- And that is enough: whoever is woken after it was told to wait with a number, by a grant or by
   -- the hangup, is woken with a number above it.

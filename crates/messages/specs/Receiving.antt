@@ -1,5 +1,5 @@
 -- What a receive promises. After recv and nbrecv in thread(2). Own: the end.
-use Rattle.std.specs.Prelude.{◌≡◌, Bool, true, false, Option, Some, None, Result, Ok, Err}
+use Rattle.std.specs.Prelude.{◌≡◌, ℕ, Bool, true, false, Option, Some, None, Result, Ok, Err}
 use Rattle.kernel_lock.specs.Seats.{number_of}
 use Rattle.rendez_words.specs.Process.{Process}
 use Rattle.sync_base.specs.declared.fault.Fault.{Fault}
@@ -19,22 +19,23 @@ use Rattle.messages.specs.declared.message_object.MessageReply.TheVariants as re
 use Rattle.messages.specs.declared.message_object.Wake.{Wake}
 use Rattle.messages.specs.declared.receiving.Got.{Got}
 use Rattle.messages.specs.Asking.{HandleSeat, Asks}
-use Rattle.messages.specs.Handles.{rendez_at}
+use Rattle.messages.specs.Handles.{rendez_of_place}
 use Rattle.messages.specs.Waking.{WakesNext}
 
-module _ {T : Type 0} (channel : Channel T) where
+-- a receive at this place
+module _ {T : Type 0} (channel : Channel T) (place : ℕ) where
   -- ---- the requests of a receive
 
   -- a take was answered so, and the process did nothing
   pub record OnlyTakes (wait : Bool) (told : MessageReply T)
       (before after : Point (HandleSeat T)) : Type 0 where
-    pub asks : Asks channel (Take (number_of before.seat) wait) told before.seat after.seat
+    pub asks : Asks channel (Take (number_of before.seat) place wait) told before.seat after.seat
     pub idle : after.process ≡ before.process
 
   -- it took this value out, and woke the sender that was granted its room
   pub record IsGiven (wait : Bool) (value : T) (before after : Point (HandleSeat T)) : Type 0 where
     pub wake : Option Wake
-    pub asks : Asks channel (Take (number_of before.seat) wait) (reply.Value value wake)
+    pub asks : Asks channel (Take (number_of before.seat) place wait) (reply.Value value wake)
         before.seat after.seat
     pub woken : WakesNext channel wake before.process after.process
 
@@ -54,15 +55,15 @@ module _ {T : Type 0} (channel : Channel T) where
   -- somebody to wake
   abbrev pub IsLeftWith : HandleSeat T → Received T → Option Wake → HandleSeat T → Type 0
   IsLeftWith before (received.Value value) wake after =
-      Asks channel (LeaveReceiver (number_of before)) (reply.Value value wake) before after
+      Asks channel (LeaveReceiver (number_of before) place) (reply.Value value wake) before after
   IsLeftWith before received.End wake after =
-      Asks channel (LeaveReceiver (number_of before)) reply.End before after × (wake ≡ None)
+      Asks channel (LeaveReceiver (number_of before) place) reply.End before after × (wake ≡ None)
 
   -- or without one
   abbrev pub LeavesLine : HandleSeat T → Option (Got T) → HandleSeat T → Type 0
   LeavesLine before (Some got) after = IsLeftWith before got.received got.wake after
   LeavesLine before None after =
-      Asks channel (LeaveReceiver (number_of before)) reply.Empty before after
+      Asks channel (LeaveReceiver (number_of before) place) reply.Empty before after
 
   -- a call that receives, as its wait asks the queue
   abbrev pub receiving : Promise (HandleSeat T) (Got T)
@@ -85,8 +86,8 @@ module _ {T : Type 0} (channel : Channel T) where
       (after : RunPoint Timer (HandleSeat T)) : Type 0 where
     pub told : Result (Got T) Fault
     pub between : RunPoint Timer (HandleSeat T)
-    pub ran : runs.ran receiving (rendez_at channel before.at.seat) before told between
-    pub is_call : IsACall receiving (rendez_at channel before.at.seat) before.at told between.at
+    pub ran : runs.ran receiving (rendez_of_place channel place) before told between
+    pub is_call : IsACall receiving (rendez_of_place channel place) before.at told between.at
     pub seat_is : after.at.seat ≡ between.at.seat
     pub timer_is : after.timer ≡ between.timer
     pub settled : IsSettled answer told between.at.process after.at.process

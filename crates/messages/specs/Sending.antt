@@ -1,13 +1,10 @@
--- What a send promises. After send and nbsend in thread(2). Own: the hangup, and the order of the
+-- What a send promises. After send and nbsend in thread(2). Own: the end, and the order of the
 -- refusals.
-use Rattle.std.specs.Prelude.{◌≡◌, ⊤, true, false, Option, Some, None, Result, Ok, Err}
+use Rattle.std.specs.Prelude.{◌≡◌, ⊤, ℕ, true, false, Option, Some, None, Result, Ok, Err}
 use Rattle.kernel_lock.specs.Seats.{number_of}
-use Rattle.rendez_words.specs.Process.{Process, pid_in}
-use Rattle.rendez_words.specs.Steps.{notes}
+use Rattle.rendez_words.specs.Process.{Process}
 use Rattle.sync_base.specs.declared.fault.Fault.{Fault}
 use Rattle.sync_base.specs.declared.fault.Fault.TheVariants as fault
-use Rattle.sync_base.specs.declared.note.Note.TheVariants.{ClosedPipe}
-use Rattle.sync_base.specs.NoteSet.{only}
 use Rattle.waiting.specs.declared.call.Reply.{Reply}
 use Rattle.waiting.specs.declared.call.Reply.TheVariants.{Done, Wait, Refused}
 use Rattle.waiting.specs.Runners.{IsACall, RunPoint, Runs, as_long_as_it_takes}
@@ -23,19 +20,16 @@ use Rattle.messages.specs.declared.message_object.MessageReply.TheVariants as re
 use Rattle.messages.specs.declared.message_object.Wake.{Wake}
 use Rattle.messages.specs.declared.messages.Sending.{Sending}
 use Rattle.messages.specs.Asking.{HandleSeat, IsHandleSeatOf, Asks}
-use Rattle.messages.specs.Handles.{rendez_at}
+use Rattle.messages.specs.Handles.{rendez_of_place}
 use Rattle.messages.specs.Waking.{WakesNext}
-
--- the process has the note of a write on a closed pipe
-abbrev pub IsNotedClosed : Process → Process → Type 0
-IsNotedClosed before after = after ≡ notes before (pid_in before) (only ClosedPipe)
 
 module _ {T : Type 0} (channel : Channel T) where
   -- after a send the seat is the queue's
   abbrev pub IsSent : Sending T → Type 0
   IsSent state = IsHandleSeatOf channel state.seat
 
-  module _ (value : T) where
+  -- a send of this value from this place
+  module _ (place : ℕ) (value : T) where
     -- who is to send has the value
     pub record IsSending (state : Sending T) : Type 0 where
       pub seat : IsHandleSeatOf channel state.seat
@@ -52,22 +46,17 @@ module _ {T : Type 0} (channel : Channel T) where
     -- a put was answered so, and the process did nothing
     pub record OnlyPuts (told : MessageReply T) (left : Option T) (before after : Point (Sending T))
         : Type 0 where
-      pub asks : AsksWith (Put (number_of before.seat.seat) value true) told left
+      pub asks : AsksWith (Put (number_of before.seat.seat) place value true) told left
           before.seat after.seat
       pub idle : after.process ≡ before.process
 
     -- the value was accepted, and the receiver that was granted one was woken
     pub record IsAccepted (before after : Point (Sending T)) : Type 0 where
       pub wake : Option Wake
-      pub asks : AsksWith (Put (number_of before.seat.seat) value true) (reply.Accepted wake) None
+      pub asks : AsksWith (Put (number_of before.seat.seat) place value true) (reply.Accepted wake)
+          None
           before.seat after.seat
       pub woken : WakesNext channel wake before.process after.process
-
-    -- the queue was hung up, and the process was posted the note of that
-    pub record IsTooLate (before after : Point (Sending T)) : Type 0 where
-      pub asks : AsksWith (Put (number_of before.seat.seat) value true) (reply.Hungup value)
-          (Some value) before.seat after.seat
-      pub noted : IsNotedClosed before.process after.process
 
     -- a put, at first and after each sleep
     abbrev pub Puts : Point (Sending T) → Reply (Option Wake) → Point (Sending T) → Type 0
@@ -75,7 +64,8 @@ module _ {T : Type 0} (channel : Channel T) where
     Puts before (Done (Some wake)) after = ⊥
     Puts before (Wait grants) after =
         OnlyPuts (reply.Full value grants) (Some value) before after
-    Puts before (Refused fault.Hungup) after = IsTooLate before after
+    Puts before (Refused fault.Hungup) after =
+        OnlyPuts (reply.Hungup value) (Some value) before after
     Puts before (Refused fault.Worn) after = OnlyPuts (reply.Worn value) (Some value) before after
     Puts before (Refused why) after = ⊥
 
@@ -83,9 +73,10 @@ module _ {T : Type 0} (channel : Channel T) where
     -- by then, and somebody to wake; or with the value.
     abbrev pub LeavesLine : Sending T → Option (Option Wake) → Sending T → Type 0
     LeavesLine before (Some wake) after =
-        AsksWith (LeaveSender (number_of before.seat) value) (reply.Accepted wake) None before after
+        AsksWith (LeaveSender (number_of before.seat) place value) (reply.Accepted wake) None before
+        after
     LeavesLine before None after =
-        AsksWith (LeaveSender (number_of before.seat) value) (reply.NotNow value) (Some value)
+        AsksWith (LeaveSender (number_of before.seat) place value) (reply.NotNow value) (Some value)
         before after
 
     -- a call that sends the value, as its wait asks the queue
@@ -110,12 +101,12 @@ module _ {T : Type 0} (channel : Channel T) where
       pub first_is : first ≡ record { seat = before.at.seat; value = Some value }
       pub told : Result (Option Wake) Fault
       pub between : RunPoint Timer (Sending T)
-      pub ran : runs.ran sending (rendez_at channel before.at.seat)
+      pub ran : runs.ran sending (rendez_of_place channel place)
           (record {
             at = record { seat = first; process = before.at.process };
             timer = before.timer;
           }) told between
-      pub is_call : IsACall sending (rendez_at channel before.at.seat)
+      pub is_call : IsACall sending (rendez_of_place channel place)
           (record { seat = first; process = before.at.process }) told between.at
       pub seat_is : after.at.seat ≡ between.at.seat.seat
       pub timer_is : after.timer ≡ between.timer
@@ -132,27 +123,22 @@ module _ {T : Type 0} (channel : Channel T) where
     -- it was answered so, and the process did nothing
     pub record OnlyTries (told : MessageReply T) (before after : Point (HandleSeat T)) : Type 0
       where
-        pub asks : Asks channel (Put (number_of before.seat) value false) told before.seat
+        pub asks : Asks channel (Put (number_of before.seat) place value false) told before.seat
             after.seat
         pub idle : after.process ≡ before.process
 
     pub record IsAcceptedNow (before after : Point (HandleSeat T)) : Type 0 where
       pub wake : Option Wake
-      pub asks : Asks channel (Put (number_of before.seat) value false) (reply.Accepted wake)
+      pub asks : Asks channel (Put (number_of before.seat) place value false) (reply.Accepted wake)
           before.seat after.seat
       pub woken : WakesNext channel wake before.process after.process
 
-    pub record IsTooLateNow (before after : Point (HandleSeat T)) : Type 0 where
-      pub asks : Asks channel (Put (number_of before.seat) value false) (reply.Hungup value)
-          before.seat after.seat
-      pub noted : IsNotedClosed before.process after.process
-
     abbrev pub TriesToSend :
-        Point (HandleSeat T) → Result (TrySent T) (Unsent T) → Point (HandleSeat T) → Type 0
-    TriesToSend before (Ok sent.Sent) after = IsAcceptedNow before after
-    TriesToSend before (Ok (sent.NotNow back)) after = OnlyTries (reply.NotNow value) before after
-    TriesToSend before (Err unsent) after =
-        (unsent.fault ≡ fault.Hungup) × IsTooLateNow before after
+        Point (HandleSeat T) → TrySent T → Point (HandleSeat T) → Type 0
+    TriesToSend before sent.Sent after = IsAcceptedNow before after
+    TriesToSend before (sent.Full back) after = OnlyTries (reply.NotNow value) before after
+    TriesToSend before (sent.Over back) after = OnlyTries (reply.Hungup value) before after
+    TriesToSend before (sent.NoRendez back) after = ⊥
 
 module _ {A T : Type 0} where
   -- the answer without the value
@@ -160,8 +146,17 @@ module _ {A T : Type 0} where
   fault_of (Ok out) = Ok out
   fault_of (Err unsent) = Err unsent.fault
 
--- a value that is refused, or for which there is no room, comes back
-abbrev pub GivesBackTried : {T : Type 0} → T → Result (TrySent T) (Unsent T) → Type 0
-GivesBackTried value (Ok sent.Sent) = ⊤
-GivesBackTried value (Ok (sent.NotNow back)) = back ≡ value
-GivesBackTried value (Err unsent) = unsent.value ≡ value
+module _ {T : Type 0} where
+  -- a value that was not sent comes back
+  abbrev pub GivesBackTried : T → TrySent T → Type 0
+  GivesBackTried value sent.Sent = ⊤
+  GivesBackTried value (sent.Full back) = back ≡ value
+  GivesBackTried value (sent.Over back) = back ≡ value
+  GivesBackTried value (sent.NoRendez back) = back ≡ value
+
+  -- whether the process may not send
+  abbrev pub may_of : TrySent T → Result Unit Fault
+  may_of (sent.NoRendez back) = Err fault.NoRendez
+  may_of sent.Sent = Ok tt
+  may_of (sent.Full back) = Ok tt
+  may_of (sent.Over back) = Ok tt

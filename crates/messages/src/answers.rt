@@ -2,7 +2,7 @@
 use sync_base::Fault;
 
 /// A value that was not sent, and why.
-#[derive(Debug, Drop)]
+#[derive(Debug, Clone, PartialEq, Drop)]
 pub struct Unsent<T> {
     pub value: T,
     pub fault: Fault,
@@ -20,31 +20,35 @@ impl<T: Drop> From<Unsent<T>> for Fault {
     }
 }
 
-/// The answer of a send that does not wait.
-#[derive(Debug, Drop)]
+/// The answer of a send that does not wait. A value that was not sent comes back.
+#[derive(Debug, Clone, PartialEq, Drop)]
 pub enum TrySent<T> {
     /// The value was accepted.
     Sent,
-    /// There is no room now. The value comes back.
-    NotNow(T),
+    /// There is no room now.
+    Full(T),
+    /// The queue is hung up, or its receivers have closed.
+    Over(T),
+    /// The kernel of the process has too few Rendez for the queue.
+    NoRendez(T),
 }
 
 /// The answer of a receive.
-#[derive(Debug, Drop)]
+#[derive(Debug, Clone, PartialEq, Drop)]
 pub enum Received<T> {
     /// The oldest value.
     Value(T),
-    /// The queue is hung up, and all that it accepted was received.
+    /// The queue is hung up, or its senders have closed, and all that it accepted was received.
     End,
 }
 
 /// The answer of a receive that does not wait.
-#[derive(Debug, Drop)]
+#[derive(Debug, Clone, PartialEq, Drop)]
 pub enum TryReceived<T> {
     /// The oldest value.
     Value(T),
     /// There is no value now.
     NotNow,
-    /// The queue is hung up, and all that it accepted was received.
+    /// The queue is hung up, or its senders have closed, and all that it accepted was received.
     End,
 }

@@ -3,11 +3,14 @@
 ghost use Rattle.messages.specs.MessageLaws.{
   EachGrantIsNamed,
   EndIsAfterAll,
+  EndsWithASide,
   FirstInFirstOut,
+  LastCloseWakes,
   NeverOverfull,
   NobodyWaitsForNothing,
   NothingAfterHangup,
   OneHangupIsFirst,
+  PlacesComeBack,
   RefusedAfterHangup,
   StatesAreSound,
   WakersAreAbove,
@@ -24,19 +27,32 @@ pub fn never_overfull<T>()
     ensures { NeverOverfull T }
 {}
 
-/// Nothing is accepted after a hangup, and a value is refused as hung up after one alone.
+/// A queue is hung up just where it was by a call, or where each handle of a side that was opened
+/// has closed; and the close of the last one is told a number to wake all with.
+pub fn ends_with_a_side<T>()
+    ensures ends { EndsWithASide T }
+    ensures wakes { LastCloseWakes T }
+{}
+
+/// A handle that has closed gives its place back: no handle is refused where fewer are open than
+/// the queue has, unless the queue is over and has none of its side.
+pub fn places_come_back<T>()
+    ensures { PlacesComeBack T }
+{}
+
+/// Nothing is accepted after the end, and a value is refused as hung up after it alone.
 pub fn nothing_after_hangup<T>()
     ensures accepted { NothingAfterHangup T }
     ensures refused { RefusedAfterHangup T }
 {}
 
-/// The end is told only after a hangup, when all that was accepted was received or was granted to a
-/// receiver that has yet to come for it.
+/// The end is told only after a hangup or the last close of a side, when all that was accepted was
+/// received or was granted to a receiver that has yet to come for it.
 pub fn end_is_after_all<T>()
     ensures { EndIsAfterAll T }
 {}
 
-/// One hangup is the first.
+/// One hangup, or one close, is the first.
 pub fn one_hangup_is_first<T>()
     ensures { OneHangupIsFirst T }
 {}

@@ -1,7 +1,8 @@
 //! A bounded queue of values of any type, after Channel in thread(2): senders wait for room,
-//! receivers wait for values, and a hangup ends both. Read `limits`, `line`, `message_object`,
-//! `object`; then `known`, `channel`, `messages`, `answers`; `sending`, `receiving`, `hanging`; and
-//! `laws`.
+//! receivers wait for values, and both end with the last handle of a side, or with a hangup. Read
+//! `limits`, `line`, `message_object`,
+//! `object`; then `known`, `channel`, `messages`, `answers`; `sending`, `receiving`, `hanging`,
+//! `counting`; and `laws`.
 //!
 //! # How a call goes
 //!
@@ -12,17 +13,23 @@
 //! it. Where notes or a tick end a wait first, the call leaves the line, and takes along what it
 //! was granted by then.
 //!
-//! # Why a hangup loses nothing, and leaves nobody asleep
+//! # Why the end loses nothing, and leaves nobody asleep
 //!
-//! That the queue is hung up is part of the object, so each put is before the hangup or after it. A
+//! Each handle has a seat at the lock, which is open from the call that makes the handle to the one
+//! that closes it, and a place, which names the Rendez in which it waits. The object keeps the open
+//! seats: the last one of a side that closes hangs the queue up, in the same hold of the lock.
+//!
+//! That the queue is hung up is part of the object, so each put is before the end or after it. A
 //! put after it is refused, with the value. What was accepted came before, and a take finds it; it
 //! answers that there is the end only where each value that is left was granted to another
-//! receiver, which comes for it. The hangup wakes every handle, with a number above each that was
-//! told to who waits; nobody waits any more from then on.
+//! receiver, which comes for it. The call that ends the queue wakes whoever waits at any place,
+//! with
+//! a number above each that was told to who waits; nobody waits any more from then on.
 #![tactic(auto)]
 
 pub mod answers;
 mod channel;
+mod counting;
 mod hanging;
 mod known;
 pub mod laws;
@@ -35,5 +42,5 @@ mod receiving;
 mod sending;
 
 pub use answers::{Received, TryReceived, TrySent, Unsent};
-pub use message_object::{MessageCall, MessageObject, MessageReply, Wake};
+pub use message_object::{MessageCall, MessageObject, MessageReply, Side, Wake};
 pub use messages::{Ends, Messages, Receiver, Sender};

@@ -20,8 +20,10 @@ impl<T: Drop> Object for MessageObject<T> {
             MessageCall::Put { seat, .. }
             | MessageCall::Take { seat, .. }
             | MessageCall::LeaveSender { seat, .. }
-            | MessageCall::LeaveReceiver { seat } => Some(*seat),
-            MessageCall::Hang => None,
+            | MessageCall::LeaveReceiver { seat, .. }
+            | MessageCall::Open { seat, .. }
+            | MessageCall::Close { seat, .. } => Some(*seat),
+            MessageCall::Hang | MessageCall::Count => None,
         }
     }
 

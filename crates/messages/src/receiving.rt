@@ -13,6 +13,7 @@ use waiting::{Forever, Reply, Runner, WaitingCall};
 #[derive(Drop)]
 pub(crate) struct Receive<'q, T: Drop> {
     pub(crate) channel: &'q Channel<T>,
+    pub(crate) place: u64,
 }
 
 /// What a call received, and who is still to be woken.
@@ -44,7 +45,7 @@ impl<'q, T: Drop> WaitingCall for Receive<'q, T> {
 
     ghost sight = { λ seat buffer. seat };
 
-    ghost promise = { λ call. receiving call.channel.now };
+    ghost promise = { λ call. receiving call.channel.now call.place };
 
     fn begin<R: Wait>(
         &self,
@@ -66,6 +67,7 @@ impl<'q, T: Drop> WaitingCall for Receive<'q, T> {
     ) -> Reply<Got<T>> {
         let call = MessageCall::Take {
             seat: seat.number(),
+            place: self.place,
             wait: true,
         };
         match self.channel.ask(rt, seat, call) {
@@ -89,6 +91,7 @@ impl<'q, T: Drop> WaitingCall for Receive<'q, T> {
     fn leave<R: Wait>(&self, rt: &R, seat: &mut LockSeat<MessageObject<T>>) -> Option<Got<T>> {
         let call = MessageCall::LeaveReceiver {
             seat: seat.number(),
+            place: self.place,
         };
         match self.channel.ask(rt, seat, call) {
             MessageReply::Value(value, wake) => Some(Got {
@@ -115,8 +118,8 @@ impl<'m, T: Drop> Receiver<'m, T> {
     ghost use Rattle.messages.specs.Receiving.{Receives, ReceivesBy, TriesToReceive};
 
     /// Receives the oldest value, and waits where there is none. `End` says that the queue is hung
-    /// up and that each value which it accepted was received, or was granted to another receiver
-    /// that comes for it. After recv in thread(2).
+    /// up or its senders have closed, and that each value which it accepted was received, or was
+    /// granted to another receiver that comes for it. After recv in thread(2).
     ///
     /// Refuses, in this order, as `NoRendez` a process whose kernel has too few Rendez for the
     /// queue, `Worn` where the numbers of grants are worn out and it would wait, `DoubleSleep`
@@ -131,7 +134,7 @@ impl<'m, T: Drop> Receiver<'m, T> {
         // It received where the process may receive; else nothing is done.
         ensures known { IfMay (OwnsRow self.old.channel proc.old.words) result
             ((self.new ≡ self.old) × (proc.new ≡ proc.old))
-            (Receives self.old.channel (point self.old.seat proc.old) result
+            (Receives self.old.channel self.old.place (point self.old.seat proc.old) result
             (point self.new.seat proc.new)) }
     {
         self.receive_by(rt, proc, &Forever, &mut ())
@@ -157,7 +160,7 @@ impl<'m, T: Drop> Receiver<'m, T> {
         // It received where the process may receive; else nothing is done.
         ensures known { IfMay (OwnsRow self.old.channel proc.old.words) result
             ((self.new ≡ self.old) × (proc.new ≡ proc.old) × (timer.new ≡ timer.old))
-            (ReceivesBy self.old.channel (W.runs runner.now)
+            (ReceivesBy self.old.channel self.old.place (W.runs runner.now)
             (run_point self.old.seat timer.old proc.old) result
             (run_point self.new.seat timer.new proc.new)) }
     {
@@ -166,9 +169,10 @@ impl<'m, T: Drop> Receiver<'m, T> {
         }
         let call = Receive {
             channel: self.channel,
+            place: self.place,
         };
         let seat = &mut self.seat;
-        let rendez = self.channel.rendez(seat);
+        let rendez = self.channel.rendez(self.place);
         let got = match runner.run(rt, proc, rendez, &call, seat, &mut [], timer, &mut NoProbe) {
             Err(fault) => return Err(fault),
             Ok(got) => got,
@@ -192,13 +196,14 @@ impl<'m, T: Drop> Receiver<'m, T> {
         // It received, or found no value, where the process may receive; else nothing is done.
         ensures known { IfKnown (OwnsRow self.old.channel proc.old.words) result
             ((self.new ≡ self.old) × (proc.new ≡ proc.old))
-            (IfOk result (λ tried. TriesToReceive self.old.channel (point self.old.seat proc.old)
+            (IfOk result (λ tried. TriesToReceive self.old.channel self.old.place
+            (point self.old.seat proc.old)
             tried (point self.new.seat proc.new))) }
     {
         if !self.channel.is_known_to(proc) {
             return Err(Fault::NoRendez);
         }
-        Ok(self.channel.take_now(rt, proc, &mut self.seat))
+        Ok(self.channel.take_now(rt, proc, &mut self.seat, self.place))
     }
 }
 
@@ -216,17 +221,19 @@ impl<T: Drop> Channel<T> {
         rt: &R,
         proc: &mut Proc<'_>,
         seat: &mut LockSeat<MessageObject<T>>,
+        place: u64,
     ) -> TryReceived<T>
         requires seat { IsHandleSeatOf self.now seat.old }
         requires row { OwnsRow self.now proc.old.words }
         ensures seat { IsHandleSeatOf self.now seat.new }
         ensures number { number_of seat.new ≡ number_of seat.old }
         ensures words { proc.new.words ≡ proc.old.words }
-        ensures tried { TriesToReceive self.now
+        ensures tried { TriesToReceive self.now place
             (point seat.old proc.old) result (point seat.new proc.new) }
     {
         let call = MessageCall::Take {
             seat: seat.number(),
+            place,
             wait: false,
         };
         match self.ask(rt, seat, call) {

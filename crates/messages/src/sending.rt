@@ -7,13 +7,14 @@ use kernel_lock::LockSeat;
 use sleep_wakeup::Proc;
 use std::snapshot::Snapshot;
 use std::sync::Wait;
-use sync_base::{Fault, NoProbe, Note, NoteSet};
+use sync_base::{Fault, NoProbe};
 use waiting::{Forever, Reply, Runner, WaitingCall};
 
 /// A call that sends this value: what it asks of its queue. Its result is who is still to be woken.
 #[derive(Drop)]
 pub(crate) struct Send<'q, T: Drop> {
     pub(crate) channel: &'q Channel<T>,
+    pub(crate) place: u64,
     pub(crate) value: Snapshot<T>,
 }
 
@@ -26,10 +27,10 @@ impl<'q, T: Drop> WaitingCall for Send<'q, T> {
 
     type Out = Option<Wake>;
 
-    ghost ready = { λ call state. IsSending call.channel.now call.value.value state };
+    ghost ready = { λ call state. IsSending call.channel.now call.place call.value.value state };
 
     // The queue has its seat in line, and the call has the value.
-    ghost waits = { λ call state. IsSending call.channel.now call.value.value state };
+    ghost waits = { λ call state. IsSending call.channel.now call.place call.value.value state };
 
     ghost rests = { λ call state. IsSent call.channel.now state };
 
@@ -39,7 +40,7 @@ impl<'q, T: Drop> WaitingCall for Send<'q, T> {
 
     ghost sight = { λ state buffer. state };
 
-    ghost promise = { λ call. sending call.channel.now call.value.value };
+    ghost promise = { λ call. sending call.channel.now call.place call.value.value };
 
     fn begin<R: Wait>(
         &self,
@@ -64,6 +65,7 @@ impl<'q, T: Drop> WaitingCall for Send<'q, T> {
         };
         let call = MessageCall::Put {
             seat: state.seat.number(),
+            place: self.place,
             value,
             wait: true,
         };
@@ -78,7 +80,6 @@ impl<'q, T: Drop> WaitingCall for Send<'q, T> {
             }
             MessageReply::Hungup(back) => {
                 state.value = Some(back);
-                proc.put_back(NoteSet::of(Note::ClosedPipe));
                 Reply::Refused(Fault::Hungup)
             }
             MessageReply::Worn(back) => {
@@ -95,6 +96,7 @@ impl<'q, T: Drop> WaitingCall for Send<'q, T> {
         };
         let call = MessageCall::LeaveSender {
             seat: state.seat.number(),
+            place: self.place,
             value,
         };
         match self.channel.ask(rt, &mut state.seat, call) {
@@ -114,17 +116,17 @@ impl<'m, T: Drop> Sender<'m, T> {
     ghost use Rattle.waiting.specs.Waiting.{point};
     ghost use Rattle.messages.specs.Handles.{IsSame, OwnsRow};
     ghost use Rattle.messages.specs.Known.{IfKnown, IfMay};
-    ghost use Rattle.messages.specs.Sending.{GivesBackTried, Sends, SendsBy, TriesToSend, fault_of};
+    ghost use Rattle.messages.specs.Sending.{GivesBackTried, Sends, SendsBy, TriesToSend};
+    ghost use Rattle.messages.specs.Sending.{fault_of, may_of};
 
     /// Sends the value, and waits where there is no room. After send in thread(2).
     ///
     /// Refuses, in this order, as `NoRendez` a process whose kernel has too few Rendez for the
-    /// queue, `Hungup` where the queue is hung up, with the note of a write on a closed pipe posted
-    /// to the process, `Worn` where the numbers of grants are worn out and it would wait,
-    /// `DoubleSleep` where another process sleeps in the handle's Rendez, and `Interrupted` with
-    /// the notes that ended the wait, which are no longer pending. The value comes back from each
-    /// refusal. Where room was granted before the notes came, the value is sent, and the notes are
-    /// pending again. Takes no memory.
+    /// queue, `Hungup` where the queue is hung up or its receivers have closed, `Worn` where the
+    /// numbers of grants are worn out and it would wait, `DoubleSleep` where another process sleeps
+    /// in the handle's Rendez, and `Interrupted` with the notes that ended the wait, which are no
+    /// longer pending. The value comes back from each refusal. Where room was granted before the
+    /// notes came, the value is sent, and the notes are pending again. Takes no memory.
     pub fn send<R: Wait>(&mut self, rt: &R, proc: &mut Proc<'_>, value: T) -> Result<(), Unsent<T>>
         ensures same { IsSame self.old self.new }
         ensures words { proc.new.words ≡ proc.old.words }
@@ -135,7 +137,8 @@ impl<'m, T: Drop> Sender<'m, T> {
         // It sent where the process may send; else nothing is done.
         ensures known { IfMay (OwnsRow self.old.channel proc.old.words) (fault_of result)
             ((self.new ≡ self.old) × (proc.new ≡ proc.old))
-            (Sends self.old.channel value (point self.old.seat proc.old) (fault_of result)
+            (Sends self.old.channel self.old.place value (point self.old.seat proc.old)
+            (fault_of result)
             (point self.new.seat proc.new)) }
     {
         self.send_by(rt, proc, value, &Forever, &mut ())
@@ -166,7 +169,7 @@ impl<'m, T: Drop> Sender<'m, T> {
         // a send.
         ensures known { IfMay (OwnsRow self.old.channel proc.old.words) (fault_of result)
             ((self.new ≡ self.old) × (proc.new ≡ proc.old) × (timer.new ≡ timer.old))
-            (SendsBy self.old.channel value (W.runs runner.now)
+            (SendsBy self.old.channel self.old.place value (W.runs runner.now)
             (run_point self.old.seat timer.old proc.old) (fault_of result)
             (run_point self.new.seat timer.new proc.new)) }
     {
@@ -178,11 +181,12 @@ impl<'m, T: Drop> Sender<'m, T> {
         }
         let call = Send {
             channel: self.channel,
+            place: self.place,
             value: Snapshot::of(&value),
         };
         let state = &mut self.state;
         state.value = Some(value);
-        let rendez = self.channel.rendez(&state.seat);
+        let rendez = self.channel.rendez(self.place);
         match runner.run(rt, proc, rendez, &call, state, &mut [], timer, &mut NoProbe) {
             Ok(wake) => {
                 self.channel.wake_next(proc, wake);
@@ -196,34 +200,26 @@ impl<'m, T: Drop> Sender<'m, T> {
     }
 
     /// Sends the value if there is room now; else the value comes back. After nbsend in thread(2).
-    ///
-    /// Refuses, in this order, as `NoRendez` and `Hungup` as `send` does, with the value. It waits
-    /// for the queue's lock. Takes no memory.
-    pub fn try_send<R: Wait>(
-        &mut self,
-        rt: &R,
-        proc: &mut Proc<'_>,
-        value: T,
-    ) -> Result<TrySent<T>, Unsent<T>>
+    /// It waits for the queue's lock. Takes no memory.
+    pub fn try_send<R: Wait>(&mut self, rt: &R, proc: &mut Proc<'_>, value: T) -> TrySent<T>
         ensures same { IsSame self.old self.new }
         ensures words { proc.new.words ≡ proc.old.words }
 
-        // A value that is refused, or for which there is no room, comes back.
+        // A value that was not sent comes back.
         ensures back { GivesBackTried value result }
 
-        // It sent, or found no room, where the process may send; else nothing is done.
-        ensures known { IfKnown (OwnsRow self.old.channel proc.old.words) (fault_of result)
+        // It sent, or found no room or the end, where the process may send; else nothing is done.
+        ensures known { IfKnown (OwnsRow self.old.channel proc.old.words) (may_of result)
             ((self.new ≡ self.old) × (proc.new ≡ proc.old))
-            (TriesToSend self.old.channel value (point self.old.seat proc.old) result
+            (TriesToSend self.old.channel self.old.place value (point self.old.seat proc.old) result
             (point self.new.seat proc.new)) }
     {
         if !self.channel.is_known_to(proc) {
-            return Err(Unsent {
-                value,
-                fault: Fault::NoRendez,
-            });
+            return TrySent::NoRendez(value);
         }
-        self.channel.put_now(rt, proc, &mut self.state.seat, value)
+        let place = self.place;
+        self.channel
+            .put_now(rt, proc, &mut self.state.seat, place, value)
     }
 }
 
@@ -241,35 +237,31 @@ impl<T: Drop> Channel<T> {
         rt: &R,
         proc: &mut Proc<'_>,
         seat: &mut LockSeat<MessageObject<T>>,
+        place: u64,
         value: T,
-    ) -> Result<TrySent<T>, Unsent<T>>
+    ) -> TrySent<T>
         requires seat { IsHandleSeatOf self.now seat.old }
         requires row { OwnsRow self.now proc.old.words }
         ensures seat { IsHandleSeatOf self.now seat.new }
         ensures number { number_of seat.new ≡ number_of seat.old }
         ensures words { proc.new.words ≡ proc.old.words }
         ensures back { GivesBackTried value result }
-        ensures tried { TriesToSend self.now value
+        ensures tried { TriesToSend self.now place value
             (point seat.old proc.old) result (point seat.new proc.new) }
     {
         let call = MessageCall::Put {
             seat: seat.number(),
+            place,
             value,
             wait: false,
         };
         match self.ask(rt, seat, call) {
             MessageReply::Accepted(wake) => {
                 self.wake_next(proc, wake);
-                Ok(TrySent::Sent)
+                TrySent::Sent
             }
-            MessageReply::NotNow(back) => Ok(TrySent::NotNow(back)),
-            MessageReply::Hungup(value) => {
-                proc.put_back(NoteSet::of(Note::ClosedPipe));
-                Err(Unsent {
-                    value,
-                    fault: Fault::Hungup,
-                })
-            }
+            MessageReply::NotNow(back) => TrySent::Full(back),
+            MessageReply::Hungup(back) => TrySent::Over(back),
             _ => unreachable!(),
         }
     }

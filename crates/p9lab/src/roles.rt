@@ -260,11 +260,12 @@ fn have_sent(answer: Result<(), Unsent<u64>>) -> Answer {
 }
 
 // The same of a send that does not wait.
-fn have_tried_to_send(answer: Result<TrySent<u64>, Unsent<u64>>) -> Answer {
+fn have_tried_to_send(answer: TrySent<u64>) -> Answer {
     match answer {
-        Ok(TrySent::Sent) => Answer::Word("sent"),
-        Ok(TrySent::NotNow(value)) => Answer::Number("not now", value),
-        Err(Unsent { value, fault }) => Answer::FaultAfter(fault, value),
+        TrySent::Sent => Answer::Word("sent"),
+        TrySent::Full(value) => Answer::Number("not now", value),
+        TrySent::Over(value) => Answer::FaultAfter(Fault::Hungup, value),
+        TrySent::NoRendez(value) => Answer::FaultAfter(Fault::NoRendez, value),
     }
 }
 

@@ -43,7 +43,7 @@ module _ {T : Type 0} where
       → Type 0
   SendsWithin moment value old answer new =
       IfMay (MayCall old) (fault_of answer) (IsAsBefore old new)
-      (SendsBy old.handle.channel value (until old.watch moment) (handle_point old)
+      (SendsBy old.handle.channel old.handle.place value (until old.watch moment) (handle_point old)
       (fault_of answer) (handle_point new))
 
   -- A receive until a moment, and how it waited for a value.
@@ -51,5 +51,5 @@ module _ {T : Type 0} where
       → Type 0
   ReceivesWithin moment old answer new =
       IfMay (MayCall old) answer (IsAsBefore old new)
-      (ReceivesBy old.handle.channel (until old.watch moment) (handle_point old) answer
-      (handle_point new))
+      (ReceivesBy old.handle.channel old.handle.place (until old.watch moment)
+      (handle_point old) answer (handle_point new))

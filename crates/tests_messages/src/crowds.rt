@@ -76,15 +76,15 @@ fn offer<R: Wait>(
 ) -> bool {
     if tries {
         return match sender.try_send(rt, proc, letter) {
-            Ok(TrySent::Sent) => true,
-            Ok(TrySent::NotNow(back)) => {
+            TrySent::Sent => true,
+            TrySent::Full(back) => {
                 if back != letter {
                     work.wrong = work.wrong.saturating_add(1);
                 }
                 yield_now();
                 false
             }
-            Err(_) => {
+            TrySent::Over(_) | TrySent::NoRendez(_) => {
                 work.wrong = work.wrong.saturating_add(1);
                 false
             }

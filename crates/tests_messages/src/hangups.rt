@@ -9,7 +9,7 @@ use std::alloc::Global;
 use std::process::Abort;
 use std::sync::Wait;
 use std::thread::{self, Threads, join, yield_now};
-use sync_base::{Fault, Note, NoteSet};
+use sync_base::{Fault, NoteSet};
 
 /// How often each hangup is tried.
 const ROUNDS: u64 = 50;
@@ -26,7 +26,7 @@ struct Work {
     wrong: u64,
 }
 
-// Sends until the queue is hung up, which it is told once with a note and the letter back.
+// Sends until the queue is hung up, which it is told once with the letter back, and without a note.
 fn send_on<R: Wait>(
     rt: &R,
     sender: &mut Sender<'_, Letter>,
@@ -47,7 +47,7 @@ fn send_on<R: Wait>(
             Ok(()) => work.sent = work.sent.saturating_add(1),
             Err(unsent) => {
                 let is_told = unsent.fault == Fault::Hungup && unsent.value == letter;
-                if !is_told || proc.notes() != NoteSet::of(Note::ClosedPipe) {
+                if !is_told || proc.notes() != NoteSet::empty() {
                     work.wrong = 1;
                 }
                 return work;

@@ -29,6 +29,6 @@ fn queue_page(rt: HostRuntime) {
         || receiver.receive(&rt, &mut other),
     );
     assert!(rt; sent && matches!(received, Ok(Received::Value(7))));
-    assert_eq!(rt; sender.hangup(&rt, &mut proc), Ok(()));
+    assert_eq!(rt; sender.close(&rt, &mut proc), Ok(()));
     assert!(rt; matches!(receiver.receive(&rt, &mut other), Ok(Received::End)));
 }

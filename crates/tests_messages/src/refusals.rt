@@ -60,6 +60,8 @@ enum Step {
     Interrupt,
     /// Takes its notes.
     Notes,
+    /// Counts the values and the room, by both ends.
+    Count,
 }
 
 /// What a step answers.
@@ -73,6 +75,10 @@ enum Answer {
     Back(u64, Fault),
     Refused(Fault),
     Noted(NoteSet),
+    /// So many values, and room for so many more.
+    Counted(u64, u64),
+    /// The two ends count otherwise.
+    Odd,
 }
 
 fn letter(number: u64) -> Letter {
@@ -98,9 +104,10 @@ fn try_send_step<R: Wait>(
     number: u64,
 ) -> Answer {
     match sender.try_send(rt, proc, letter(number)) {
-        Ok(TrySent::Sent) => Answer::Done,
-        Ok(TrySent::NotNow(back)) => Answer::NotNow(back.number),
-        Err(unsent) => Answer::Back(unsent.value.number, unsent.fault),
+        TrySent::Sent => Answer::Done,
+        TrySent::Full(back) => Answer::NotNow(back.number),
+        TrySent::Over(back) => Answer::Back(back.number, Fault::Hungup),
+        TrySent::NoRendez(back) => Answer::Back(back.number, Fault::NoRendez),
     }
 }
 
@@ -129,12 +136,29 @@ fn try_receive_step<R: Wait>(
     }
 }
 
+// The sender counts the values, and the receiver the room.
+fn count_step<R: Wait>(rt: &R, ends: &mut Ends<'_, Letter>) -> Answer {
+    let Ends { sender, receiver } = ends;
+    let (values, room) = (sender.len(rt), receiver.room(rt));
+    let is_same = receiver.len(rt) == values && sender.room(rt) == room;
+    let is_empty = sender.is_empty(rt) == (values == 0) && receiver.is_empty(rt) == (values == 0);
+    let is_full = sender.is_full(rt) == (room == 0) && receiver.is_full(rt) == (room == 0);
+    if is_same && is_empty && is_full {
+        Answer::Counted(values, room)
+    } else {
+        Answer::Odd
+    }
+}
+
 fn step_by<R: Wait>(
     rt: &R,
     ends: &mut Ends<'_, Letter>,
     proc: &mut Proc<'_>,
     step: Step,
 ) -> Answer {
+    if let Step::Count = step {
+        return count_step(rt, ends);
+    }
     let Ends { sender, receiver } = ends;
     match step {
         Step::Send(number) => send_step(rt, sender, proc, number),
@@ -150,6 +174,7 @@ fn step_by<R: Wait>(
             Answer::Done
         }
         Step::Notes => Answer::Noted(proc.notes()),
+        Step::Count => Answer::Odd,
     }
 }
 
@@ -177,8 +202,11 @@ fn each_call_answers_as_its_page_says(rt: HostRuntime) {
     let interrupted = Fault::Interrupted(NoteSet::of(Note::Interrupt));
     let table = [
         (Step::TryReceive, Answer::Empty),
+        (Step::Count, Answer::Counted(0, 2)),
         (Step::Send(1), Answer::Done),
+        (Step::Count, Answer::Counted(1, 1)),
         (Step::TrySend(2), Answer::Done),
+        (Step::Count, Answer::Counted(2, 0)),
         (Step::TrySend(3), Answer::NotNow(3)),
         (Step::Interrupt, Answer::Done),
         (Step::Send(4), Answer::Back(4, interrupted)),
@@ -197,16 +225,16 @@ fn each_call_answers_as_its_page_says(rt: HostRuntime) {
 
 #[test]
 fn a_hangup_ends_each_call_after_what_was_accepted(rt: HostRuntime) {
-    let closed = Answer::Noted(NoteSet::of(Note::ClosedPipe));
+    let nothing = Answer::Noted(NoteSet::empty());
     let table = [
         (Step::Send(1), Answer::Done),
         (Step::Send(2), Answer::Done),
         (Step::Hangup, Answer::Done),
         (Step::Send(3), Answer::Back(3, Fault::Hungup)),
-        (Step::Notes, closed),
+        (Step::Notes, nothing),
         (Step::TrySend(4), Answer::Back(4, Fault::Hungup)),
         (Step::Receive, Answer::Value(1)),
-        (Step::Notes, closed),
+        (Step::Notes, nothing),
         (Step::Send(5), Answer::Back(5, Fault::Hungup)),
         (Step::Hangup, Answer::Done),
         (Step::TryReceive, Answer::Value(2)),

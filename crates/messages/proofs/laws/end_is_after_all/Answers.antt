@@ -1,4 +1,4 @@
--- The queue that the call finds is hung up, and each value that it has was granted.
+-- The queue that the call finds is over, and each value that it has was granted.
 use Rattle.std.proofs.Common.{sym, ◌∙◌}
 use Rattle.histories.specs.History.{state_after}
 use Rattle.messages.specs.History.{message_meaning}
@@ -12,4 +12,4 @@ returns g c capacity handles entry past legal is =
     let kept = state_after message_meaning (opening capacity handles) past in
     let held = history_keeps capacity handles past legal.1 in
     let end = ended kept handles held.sound entry.request (sym legal.0.reply ∙ is) in
-    (sym held.hung ∙ end.0, end.1)
+    (held.ends.1.1.1.1.0 end.0, end.1)

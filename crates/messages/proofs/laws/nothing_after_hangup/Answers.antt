@@ -1,4 +1,4 @@
--- The queue that the call finds is hung up if and only if a hangup is in the past.
+-- The queue that the call finds is hung up if and only if it is over.
 use Rattle.std.proofs.Common.{sym, ◌∙◌, ap, ◌++◌, List, append-nil}
 use Rattle.histories.specs.History.{state_after}
 use Rattle.messages.specs.History.{message_meaning, sent, sent_by}
@@ -13,10 +13,10 @@ returns-clause-accepted g c capacity handles past before entry legal is =
     let held = history_keeps capacity handles past before in
     ap (λ answer. sent past ++ sent_by entry.request answer) legal.0.reply
     ∙ ap (λ (xs : List g.row.T.Denot). sent past ++ xs)
-    (none_accepted kept (held.hung ∙ is) entry.request) ∙ append-nil (sent past)
+    (none_accepted kept (held.ends.1.1.1.1.1 is) entry.request) ∙ append-nil (sent past)
 
 pub returns-clause-refused : goal.returns-clause-refused
 returns-clause-refused g c capacity handles entry past legal value is =
     let kept = state_after message_meaning (opening capacity handles) past in
-    sym (history_keeps capacity handles past legal.1).hung
-    ∙ refused_hung kept entry.request value (sym legal.0.reply ∙ is)
+    (history_keeps capacity handles past legal.1).ends.1.1.1.1.0
+    (refused_hung kept entry.request value (sym legal.0.reply ∙ is))

@@ -4,11 +4,11 @@ use Rattle.histories.specs.History.{state_after}
 use Rattle.messages.specs.History.{message_meaning}
 use Rattle.messages.specs.MessageObject.{opening}
 use Rattle.messages.proofs.CallLemmas.{first_hung}
-use Rattle.messages.proofs.LawLemmas.{history_keeps}
+use Rattle.messages.proofs.LawLemmas.{history_keeps, not_both}
 use Rattle.messages.proofs.laws.one_hangup_is_first.Goals as goal
 
 pub returns : goal.returns
-returns g c capacity handles entry past legal number is =
+returns g c capacity handles entry past legal number is over =
     let kept = state_after message_meaning (opening capacity handles) past in
-    sym (history_keeps capacity handles past legal.1).hung
-    ∙ first_hung kept entry.request number (sym legal.0.reply ∙ is)
+    not_both kept.hung ((history_keeps capacity handles past legal.1).ends.1.1.1.1.1 over)
+    (first_hung kept entry.request number (sym legal.0.reply ∙ is))

@@ -9,10 +9,10 @@ invariant_of-self g c =
     let o = c.self.inside in
     let kept = c.self.invariant in
     let numbers = kept.numbers in
-    let fewer = length_most o.senders.waiting c.args.seat in
-    let may = ap (λ (k : Contents g.row.T.Denot). can_put k c.args.seat) c.self.view_is
+    let fewer = length_most o.senders.waiting c.args.place in
+    let may = ap (λ (k : Contents g.row.T.Denot). can_put k c.args.place) c.self.view_is
     ∙ c.requires in
-    let room = room_for_one (length o.values.items) o.capacity c.args.seat o.senders.granted may
+    let room = room_for_one (length o.values.items) o.capacity c.args.place o.senders.granted may
     kept.room in
     let longer : length c.push_back_reserved.new.self.items ≡ length o.values.items + 1 =
     rw c.push_back_reserved.ensures.items (length_join o.values.items c.args.value) in
@@ -22,5 +22,7 @@ invariant_of-self g c =
       most = kept.most;
       deque = rw c.push_back_reserved.ensures.capacity kept.deque;
       senders = rw c.leave.ensures kept.senders;
-      receivers = kept.receivers;
+      receivers = rw c.leave.ensures kept.receivers;
+      free = rw c.leave.ensures kept.free;
+      places = rw c.leave.ensures kept.places;
     }

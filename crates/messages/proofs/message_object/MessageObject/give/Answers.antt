@@ -9,7 +9,7 @@ invariant_of-self-in-None g c =
     let room = kept.room in
     let numbers = kept.numbers in
     let same = ap (λ (l : List g.row.T.Denot). length l) c.in-None.ensures.items in
-    let fewer = length_most c.self.inside.receivers.waiting c.args.seat in
+    let fewer = length_most c.self.inside.receivers.waiting c.args.place in
     record {
       room = omega (arith, room, same);
       numbers = rw c.leave.ensures (omega (arith, numbers, fewer));
@@ -17,6 +17,8 @@ invariant_of-self-in-None g c =
       deque = rw c.pop_front.ensures.capacity kept.deque;
       senders = kept.senders;
       receivers = rw c.leave.ensures kept.receivers;
+      free = kept.free;
+      places = rw c.leave.ensures kept.places;
     }
 
 pub invariant_of-self : goal.invariant_of-self
@@ -25,7 +27,7 @@ invariant_of-self g c =
     let room = kept.room in
     let numbers = kept.numbers in
     let longer = ap (λ (l : List g.row.T.Denot). length l) c.in-Some.ensures.items in
-    let fewer = length_most c.self.inside.receivers.waiting c.args.seat in
+    let fewer = length_most c.self.inside.receivers.waiting c.args.place in
     record {
       room = omega (arith, room, longer);
       numbers = rw c.leave.ensures (omega (arith, numbers, fewer));
@@ -33,4 +35,6 @@ invariant_of-self g c =
       deque = rw c.pop_front.ensures.capacity kept.deque;
       senders = kept.senders;
       receivers = rw c.leave.ensures kept.receivers;
+      free = kept.free;
+      places = rw c.leave.ensures kept.places;
     }

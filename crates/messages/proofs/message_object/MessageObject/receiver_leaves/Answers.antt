@@ -7,7 +7,7 @@ pub invariant_of-self : goal.invariant_of-self
 invariant_of-self g c =
     let kept = c.self.invariant in
     let numbers = kept.numbers in
-    let waiting = length_most c.self.inside.receivers.waiting c.args.seat in
+    let waiting = length_most c.self.inside.receivers.waiting c.args.place in
     record {
       room = kept.room;
       numbers = rw c.leave.ensures (omega (arith, numbers, waiting));
@@ -15,4 +15,6 @@ invariant_of-self g c =
       deque = kept.deque;
       senders = kept.senders;
       receivers = rw c.leave.ensures kept.receivers;
+      free = kept.free;
+      places = rw c.leave.ensures kept.places;
     }

@@ -8,13 +8,15 @@ invariant_of-self g c =
     let kept = c.self.invariant in
     let room = kept.room in
     let numbers = kept.numbers in
-    let waiting = length_most c.self.inside.senders.waiting c.args.seat in
-    let granted = length_most c.self.inside.senders.granted c.args.seat in
+    let waiting = length_most c.self.inside.senders.waiting c.args.place in
+    let granted = length_most c.self.inside.senders.granted c.args.place in
     record {
       room = rw c.leave.ensures (omega (arith, room, granted));
       numbers = rw c.leave.ensures (omega (arith, numbers, waiting));
       most = kept.most;
       deque = kept.deque;
       senders = rw c.leave.ensures kept.senders;
-      receivers = kept.receivers;
+      receivers = rw c.leave.ensures kept.receivers;
+      free = rw c.leave.ensures kept.free;
+      places = rw c.leave.ensures kept.places;
     }

@@ -11,21 +11,23 @@ use Rattle.messages.proofs.messages.Receiver.receive_by.Goals as goal
 pub run-requires-clause-rendez : goal.run-requires-clause-rendez
 run-requires-clause-rendez g c =
     rw c.rendez-rendez.ensures
-    (is_in_row c.self.inside.channel.now c.self.inside.seat c.args.proc.now.words
-    c.self.invariant (c.is_known_to.ensures.0 c.if-not-is_known_to.false))
+    (is_in_row c.self.inside.channel.now c.self.inside.place c.args.proc.now.words
+    c.self.invariant.place (c.is_known_to.ensures.0 c.if-not-is_known_to.false))
 
 pub wake_next-requires-clause-there : goal.wake_next-requires-clause-there
 wake_next-requires-clause-there g c =
-    (is_over c.self.inside.channel.now _ _ _ (Ok c.in-Ok.got) c.in-Ok.ensures.is_call).there
+    (is_over c.self.inside.channel.now c.self.inside.place _ _ _ (Ok c.in-Ok.got)
+    c.in-Ok.ensures.is_call).there
 
 pub returns-in-Err-clause-same : goal.returns-in-Err-clause-same
 returns-in-Err-clause-same g c =
-    let over = is_over c.self.inside.channel.now _ _ _ (Err c.in-Err.fault)
+    let over = is_over c.self.inside.channel.now c.self.inside.place _ _ _ (Err c.in-Err.fault)
     c.in-Err.ensures.is_call in
     record {
       channel_is = ap (λ (h : Handle g.row.T.Denot). h.channel) c.self.view_is;
       number = over.number_is
           ∙ ap (λ (h : Handle g.row.T.Denot). number_of h.seat) c.self.view_is;
+      place_is = ap (λ (h : Handle g.row.T.Denot). h.place) c.self.view_is;
     }
 
 pub returns-in-Err-clause-known : goal.returns-in-Err-clause-known
@@ -34,7 +36,7 @@ returns-in-Err-clause-known g c =
     c.self.view_is (c.is_known_to.ensures.0 c.if-not-is_known_to.false) in
     record {
       refused = λ not. absurd (not may);
-      called = λ is. subst (λ (h : Handle g.row.T.Denot). ReceivesBy h.channel
+      called = λ is. subst (λ (h : Handle g.row.T.Denot). ReceivesBy h.channel h.place
           (g.W.Runner.runs c.args.runner.now) (run_point h.seat c.args.timer.now c.args.proc.now)
           (Err c.in-Err.fault) (run_point c.run.new.seat c.run.new.timer c.run.new.proc))
           c.self.view_is
@@ -51,12 +53,13 @@ returns-in-Err-clause-known g c =
 
 pub returns-clause-same : goal.returns-clause-same
 returns-clause-same g c =
-    let over = is_over c.self.inside.channel.now _ _ _ (Ok c.in-Ok.got)
+    let over = is_over c.self.inside.channel.now c.self.inside.place _ _ _ (Ok c.in-Ok.got)
     c.in-Ok.ensures.is_call in
     record {
       channel_is = ap (λ (h : Handle g.row.T.Denot). h.channel) c.self.view_is;
       number = over.number_is
           ∙ ap (λ (h : Handle g.row.T.Denot). number_of h.seat) c.self.view_is;
+      place_is = ap (λ (h : Handle g.row.T.Denot). h.place) c.self.view_is;
     }
 
 pub returns-clause-known : goal.returns-clause-known
@@ -65,7 +68,7 @@ returns-clause-known g c =
     c.self.view_is (c.is_known_to.ensures.0 c.if-not-is_known_to.false) in
     record {
       refused = λ not. absurd (not may);
-      called = λ is. subst (λ (h : Handle g.row.T.Denot). ReceivesBy h.channel
+      called = λ is. subst (λ (h : Handle g.row.T.Denot). ReceivesBy h.channel h.place
           (g.W.Runner.runs c.args.runner.now) (run_point h.seat c.args.timer.now c.args.proc.now)
           (Ok c.in-Ok.got.received)
           (run_point c.run.new.seat c.run.new.timer c.wake_next.new.proc))
