@@ -23,8 +23,9 @@ module _ {T : Type 0} (moment : ℕ) (old new : WatchedHandle T) where
 
     -- it waits for another moment, or sends another value
     sent_until_another_moment : MayCall old
-        → ¬ SendsBy old.handle.channel value (until old.watch moment) (handle_point old)
-        (fault_of answer) (handle_point new) → ¬ SendsWithin moment value old answer new
+        → ¬ SendsBy old.handle.channel old.handle.place value (until old.watch moment)
+        (handle_point old) (fault_of answer) (handle_point new)
+        → ¬ SendsWithin moment value old answer new
     sent_until_another_moment own other sends = other (sends.called own)
 
   module _ (answer : Result (Received T) Fault) where
@@ -37,6 +38,6 @@ module _ {T : Type 0} (moment : ℕ) (old new : WatchedHandle T) where
     refused_receive_does_something foreign other receives = other (receives.refused foreign).1
 
     received_until_another_moment : MayCall old
-        → ¬ ReceivesBy old.handle.channel (until old.watch moment) (handle_point old) answer
-        (handle_point new) → ¬ ReceivesWithin moment old answer new
+        → ¬ ReceivesBy old.handle.channel old.handle.place (until old.watch moment)
+        (handle_point old) answer (handle_point new) → ¬ ReceivesWithin moment old answer new
     received_until_another_moment own other receives = other (receives.called own)
