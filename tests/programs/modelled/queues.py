@@ -3,7 +3,7 @@
 What the lock of a queue guards is one step.
 """
 from modelled.devices import HUNGUP, Watch, wait_at
-from modelled.layer import CLOSED, STEP, Ended, wakeup
+from modelled.layer import STEP, Ended, wakeup
 
 MOST_VALUES, MOST_HANDLES = 2**20, 2**10
 
@@ -81,7 +81,6 @@ def send_once(proc, queue, seat, value, waits=True, watch=None):
         yield STEP
         if queue.hung:
             queue.senders.leave(seat)
-            proc.put_back(CLOSED)
             return Ended(HUNGUP)
         if queue.has_room(seat):
             yield from wake_next(proc, queue, queue.put(seat, value))
